@@ -2,6 +2,8 @@
 
 #[macro_use]
 pub mod reach;
+pub mod coverage;
+pub mod gen;
 pub mod list;
 pub mod offsets;
 pub mod read;
@@ -9,4 +11,5 @@ pub mod records;
 pub mod refusal;
 pub mod text;
 pub mod upstream;
+pub mod vectors;
 pub mod write;

@@ -25,41 +25,41 @@ unfoldable pub place : List ℕ → ℕ → ℕ → ℕ → ℕ → ℕ
 place f s w i k = offset f s + 4 * (w * i + k)
 
 -- words of the records by section
-unfoldable pub argAt : List ℕ → ℕ → ℕ
+abbrev pub argAt : List ℕ → ℕ → ℕ
 argAt f i = word f (place f args argWords i 0)
 
-unfoldable pub blockWord : List ℕ → ℕ → ℕ → ℕ
+abbrev pub blockWord : List ℕ → ℕ → ℕ → ℕ
 blockWord f i k = word f (place f blocks blockWords i k)
 
-unfoldable pub phiWord : List ℕ → ℕ → ℕ → ℕ
+abbrev pub phiWord : List ℕ → ℕ → ℕ → ℕ
 phiWord f i k = word f (place f phis phiWords i k)
 
-unfoldable pub inputAt : List ℕ → ℕ → ℕ
+abbrev pub inputAt : List ℕ → ℕ → ℕ
 inputAt f i = word f (place f inputs inputWords i 0)
 
-unfoldable pub stmtWord : List ℕ → ℕ → ℕ → ℕ
+abbrev pub stmtWord : List ℕ → ℕ → ℕ → ℕ
 stmtWord f i k = word f (place f statements stmtWords i k)
 
-unfoldable pub itemWord : List ℕ → ℕ → ℕ → ℕ
+abbrev pub itemWord : List ℕ → ℕ → ℕ → ℕ
 itemWord f i k = word f (place f lists itemWords i k)
 
-unfoldable pub exprWord : List ℕ → ℕ → ℕ → ℕ
+abbrev pub exprWord : List ℕ → ℕ → ℕ → ℕ
 exprWord f i k = word f (place f expressions exprWords i k)
 
-unfoldable pub nameWord : List ℕ → ℕ → ℕ → ℕ
+abbrev pub nameWord : List ℕ → ℕ → ℕ → ℕ
 nameWord f i k = word f (place f names nameWords i k)
 
 -- 64-bit numbers that begin at word k
-unfoldable pub blockLong : List ℕ → ℕ → ℕ → ℕ
+abbrev pub blockLong : List ℕ → ℕ → ℕ → ℕ
 blockLong f i k = long f (place f blocks blockWords i k)
 
-unfoldable pub stmtLong : List ℕ → ℕ → ℕ → ℕ
+abbrev pub stmtLong : List ℕ → ℕ → ℕ → ℕ
 stmtLong f i k = long f (place f statements stmtWords i k)
 
-unfoldable pub exprLong : List ℕ → ℕ → ℕ → ℕ
+abbrev pub exprLong : List ℕ → ℕ → ℕ → ℕ
 exprLong f i k = long f (place f expressions exprWords i k)
 
-unfoldable pub nameLong : List ℕ → ℕ → ℕ → ℕ
+abbrev pub nameLong : List ℕ → ℕ → ℕ → ℕ
 nameLong f i k = long f (place f names nameWords i k)
 
 -- n bytes of the text from `start` on

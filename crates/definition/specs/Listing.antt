@@ -61,10 +61,14 @@ printed E f =
     let t = offsets F in
     cond (refused7 t (allTrees E f)) (refused 7) (fitting E (lower F t))
 
+-- the first of 2 to 6 that refuses the file, or 0
+unfoldable pub checked : Edition → List ℕ → ℕ
+checked E f =
+    cond (refused2 E f) 2
+    (cond (refused3 E f) 3 (cond (refused4 E f) 4 (cond (refused5 E f) 5 (cond (refused6 E f) 6 0))))
+
 unfoldable pub list : Edition → List ℕ → Outcome
-list E f =
-    cond (refused2 E f) (refused 2) (cond (refused3 E f) (refused 3) (cond (refused4 E f) (refused 4)
-    (cond (refused5 E f) (refused 5) (cond (refused6 E f) (refused 6) (printed E f)))))
+list E f = cond (eqb (checked E f) 0) (printed E f) (refused (checked E f))
 
 -- the lines whose first token is the keyword `if`
 unfoldable pub tests : List Line → ℕ

@@ -8,11 +8,11 @@ use Rattle.definition.specs.Codes.{kCall, kBranch, kOther}
 use Rattle.definition.specs.Contents.{blockWord, phiWord, stmtWord}
 use Rattle.definition.specs.Lists.{sumBelow}
 
-unfoldable pub stmtKind : List ℕ → ℕ → ℕ
+abbrev pub stmtKind : List ℕ → ℕ → ℕ
 stmtKind f i = stmtWord f i 3
 
 -- field k of a statement, behind address, marks and kind
-unfoldable pub stmtField : List ℕ → ℕ → ℕ → ℕ
+abbrev pub stmtField : List ℕ → ℕ → ℕ → ℕ
 stmtField f i k = stmtWord f i (4 + k)
 
 -- how many list items of statement i are expressions: a Call's args, a Branch's and an Other's uses; they come first
@@ -31,13 +31,13 @@ valueItems f i =
 unfoldable pub items : List ℕ → ℕ → ℕ
 items f i = exprItems f i + valueItems f i
 
-unfoldable pub blockPhis : List ℕ → ℕ → ℕ
+abbrev pub blockPhis : List ℕ → ℕ → ℕ
 blockPhis f i = blockWord f i 8
 
-unfoldable pub blockStmts : List ℕ → ℕ → ℕ
+abbrev pub blockStmts : List ℕ → ℕ → ℕ
 blockStmts f i = blockWord f i 9
 
-unfoldable pub phiInputs : List ℕ → ℕ → ℕ
+abbrev pub phiInputs : List ℕ → ℕ → ℕ
 phiInputs f i = phiWord f i 3
 
 -- where the parts of owner i begin: behind those of the owners before it

@@ -1,0 +1,59 @@
+-- Where a word stands, without a sum that leaves 64 bits, and a statement's items by its kind.
+use mathlib.Core.Path.{_≡_, refl, sym, ap, ap₂, _∙_}
+use mathlib.Core.List.{List}
+use Prim.Native.Nat.{ℕ, _+_, _*_, _≤_, _<_}
+use native.Mathlib.Nat.{mul-le-mul}
+use native.Mathlib.Omega.{arith}
+use lib.Dec.{eqb}
+use borrow.Author.Tests.{eq-eqb, ne-eqb}
+use Rattle.definition.specs.Words.{word, long}
+use Rattle.definition.specs.Contents.{offset, place}
+use Rattle.definition.specs.Owners.{stmtKind, stmtField, exprItems, valueItems, items}
+
+-- a record's number times its words
+pub scaled : (w i : ℕ) → w ≤ 16 → i < 4294967296 → w * i ≤ 16 * 4294967295
+scaled w i h k = let j : i ≤ 4294967295 = omega arith in mul-le-mul h j
+
+pub place-at : (f : List ℕ) (s w i k o : ℕ) → o ≡ offset f s → o + 4 * (w * i + k) ≡ place f s w i k
+unfolding place
+place-at f s w i k o e = rw e
+
+pub word-placed : (f : List ℕ) (p q r : ℕ) → p ≡ q → r ≡ word f p → r ≡ word f q
+word-placed f p q r e h = rw (← e) h
+
+pub long-placed : (f : List ℕ) (p q r : ℕ) → p ≡ q → r ≡ long f p → r ≡ long f q
+long-placed f p q r e h = rw (← e) h
+
+-- the items of a statement: by the kind k that was read, and the field n
+module _ (f : List ℕ) (i k n : ℕ) (kind : k ≡ stmtKind f i) where
+  pub call-exprs : k ≡ 3 → n ≡ stmtField f i 2 → n ≡ exprItems f i
+  unfolding exprItems
+  call-exprs e h = rw (eq-eqb (stmtKind f i) 3 (sym kind ∙ e)) h
+
+  pub branch-exprs : k ≡ 4 → n ≡ stmtField f i 6 → n ≡ exprItems f i
+  unfolding exprItems
+  branch-exprs e h = rw (sym kind ∙ e) h
+
+  pub other-exprs : k ≡ 7 → n ≡ stmtField f i 2 → n ≡ exprItems f i
+  unfolding exprItems
+  other-exprs e h = rw (sym kind ∙ e) h
+
+  pub no-exprs : (k ≡ 3 → ⊥) → (k ≡ 4 → ⊥) → (k ≡ 7 → ⊥) → 0 ≡ exprItems f i
+  unfolding exprItems
+  no-exprs a b c = rw (← kind, ne-eqb k 3 a, ne-eqb k 4 b, ne-eqb k 7 c)
+
+  pub call-values : k ≡ 3 → n ≡ stmtField f i 6 → n ≡ valueItems f i
+  unfolding valueItems
+  call-values e h = rw (sym kind ∙ e) h
+
+  pub other-values : k ≡ 7 → n ≡ stmtField f i 3 → n ≡ valueItems f i
+  unfolding valueItems
+  other-values e h = rw (sym kind ∙ e) h
+
+  pub no-values : (k ≡ 3 → ⊥) → (k ≡ 7 → ⊥) → 0 ≡ valueItems f i
+  unfolding valueItems
+  no-values a c = rw (← kind, ne-eqb k 3 a, ne-eqb k 7 c)
+
+pub both-items : (f : List ℕ) (i a b : ℕ) → a ≡ exprItems f i → b ≡ valueItems f i → a + b ≡ items f i
+unfolding items
+both-items f i a b p q = rw (p, q)
