@@ -44,22 +44,24 @@ pub struct Report {
 
 impl Report {
     fn meet(&mut self, profile: Profile, seed: u64) {
-        let met = catch_unwind(AssertUnwindSafe(|| {
-            let file = file(profile, seed);
-            let begun = Instant::now();
-            let answer = list(&file);
-            (file, answer, begun.elapsed())
-        }));
-        let Ok((file, answer, time)) = met else {
+        if catch_unwind(AssertUnwindSafe(|| self.list(profile, seed))).is_err() {
             self.panics.push(seed);
-            return;
+        }
+    }
+
+    fn list(&mut self, profile: Profile, seed: u64) {
+        let file = file(profile, seed);
+        let begun = Instant::now();
+        let answer = list(&file);
+        let time = begun.elapsed();
+        let found = match (&answer, records(&file)) {
+            (Ok(_), Ok(records)) => parts(&records),
+            _ => reason(&file).into_iter().collect(),
         };
         self.longest = self.longest.max((time, seed));
         *self.answers.entry(answer.as_ref().map_or_else(|r| r.0, |_| 0)).or_default() += 1;
-        match (answer, records(&file)) {
-            (Ok(_), Ok(records)) => parts(&records).into_iter().for_each(|p| *self.parts.entry(p).or_default() += 1),
-            _ => reason(&file).into_iter().for_each(|r| *self.reasons.entry(r).or_default() += 1),
-        }
+        let counts = if answer.is_ok() { &mut self.parts } else { &mut self.reasons };
+        found.into_iter().for_each(|name| *counts.entry(name).or_default() += 1);
     }
 
     fn absorb(&mut self, other: Report) {

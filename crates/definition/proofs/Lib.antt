@@ -23,3 +23,13 @@ pub mod Sweep
 pub mod SweepIf
 pub mod SweepDo
 pub mod Swept
+pub mod FlagsLaws
+pub mod Flags
+pub mod Equal
+pub mod Printed
+pub mod Signs
+pub mod Calm
+pub mod Operands
+pub mod Merging
+pub mod Negated
+pub mod Heads

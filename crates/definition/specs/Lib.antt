@@ -28,6 +28,8 @@ pub mod Tokens
 pub mod Lookup
 pub mod Render
 pub mod Condition
+-- What Intel's manual says of the flags, and what a printed comparison means.
+pub mod Intel
 -- Lowering: one rule a kind, then blocks.
 pub mod Lower
 pub mod Blocks

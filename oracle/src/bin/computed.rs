@@ -55,7 +55,7 @@ fn files_of(bytes: &[u8]) -> Option<Vec<&[u8]>> {
     (at == bytes.len()).then_some(files)
 }
 
-/// Every `unfoldable` definition of the modules that SPECS/Lib.antt lists: the `use` lines, and all names.
+/// Every `unfoldable` definition of the modules that SPECS/Lib.antt lists, in their order: the `use` lines, and all names.
 fn definitions(specs: &Path) -> Result<(String, String), String> {
     let text = |name: &str| {
         let path = specs.join(format!("{name}.antt"));
@@ -64,8 +64,9 @@ fn definitions(specs: &Path) -> Result<(String, String), String> {
     let (mut uses, mut all) = (String::new(), Vec::new());
     for module in text("Lib")?.lines().filter_map(|l| l.strip_prefix("pub mod ")) {
         let body = text(module)?;
-        let names: Vec<&str> =
-            body.lines().filter_map(|l| l.strip_prefix("unfoldable pub ")).filter_map(|l| l.split(' ').next()).collect();
+        // a name that an earlier module has stays that module's: nothing that prints needs the other
+        let declared = body.lines().filter_map(|l| l.strip_prefix("unfoldable pub ")).filter_map(|l| l.split(' ').next());
+        let names: Vec<&str> = declared.filter(|n| !all.iter().any(|a| a == n)).collect();
         if !names.is_empty() {
             let _ = writeln!(uses, "use Rattle.definition.specs.{module}.{{{}}}", names.join(", "));
         }

@@ -298,11 +298,11 @@ impl Skeleton<'_> {
         out
     }
 
-    /// Lets blocks fall into the next one, or now and then elsewhere.
-    fn fall(&mut self, blocks: &mut [Block]) {
+    /// Lets blocks without an edge fall into the next one; `astray`, some fall elsewhere.
+    fn fall(&mut self, blocks: &mut [Block], astray: bool) {
         let starts: Vec<u64> = blocks.iter().map(|b| b.start).collect();
         for (i, b) in blocks.iter_mut().enumerate() {
-            if self.rng.one_in(12) {
+            if astray && self.rng.one_in(12) {
                 b.fall = Some(self.rng.pick(&starts));
             } else if b.fall.is_none() && b.taken.is_none() {
                 b.fall = starts.get(i + 1).copied();
@@ -317,11 +317,8 @@ impl Skeleton<'_> {
         }
         match self.rng.below(3) {
             0 => {}
-            1 => self.fall(&mut blocks),
-            _ => {
-                let starts: Vec<u64> = blocks.iter().map(|b| b.start).collect();
-                blocks.iter_mut().zip(&starts[1..]).filter(|(b, _)| b.taken.is_none()).for_each(|(b, s)| b.fall = Some(*s));
-            }
+            1 => self.fall(&mut blocks, true),
+            _ => self.fall(&mut blocks, false),
         }
         let mut f = Function { bits: 64, args: vec![7, 6], blocks, ..Function::default() };
         let name = self.rng.pick(&["", "", "counter", "a && b", "loc_1010", "loc_1020"]);

@@ -17,9 +17,11 @@ pub const OPERATORS: [&str; 30] = [
 ];
 /// One-operand operators: printed as they are.
 pub const PREFIXES: [&str; 13] = ["-", "~", "!", "s", "(", ")", " (", " == ", " < (", ") >= ", "&", "&& ", "not "];
+/// Texts of opaques and Others.
 #[rustfmt::skip]
 pub const TEXTS: [&str; 14] =
     ["", "?", "xmm0", "a && b", "||", "a == b", " (", ") ", "goto", "&", ";", "loc_1000", "cpuid", "}"];
+/// Supplied names: labels of this function and of others, signs that negation looks for, a leading `*`.
 #[rustfmt::skip]
 const NAMES: [&str; 16] = [
     "f", "&&", "a || b", "loc_1000", "loc_1010", "loc_1020", "loc_9999", "*p", "*", "if", "goto", ":", "sub_401000", " ", "operator<", "loc_",
@@ -28,20 +30,22 @@ const NAMES: [&str; 16] = [
 #[rustfmt::skip]
 const ADDRESSES: [u64; 12] =
     [0xFFF, 0x1000, 0x1001, 0x1010, 0x2000, 0x40_1000, 0, 1, i64::MAX as u64, 1 << 63, u64::MAX, 0x40_1008];
+/// Numbers around those at which something changes.
 #[rustfmt::skip]
 const NUMBERS: [i64; 24] = [
     0, 1, -1, 8, 9, 10, -8, -9, -10, 0xFFF, 0x1000, -0xFFF, -0x1000, 0x10, -0x10, 0xFFFF_FFFF, 0x8000_0000, -0x8000_0000, i64::MAX,
     i64::MAX - 1, i64::MIN, i64::MIN + 1, 0x2000, 0x40_1000,
 ];
-#[rustfmt::skip]
 const SIZES: [u32; 12] = [1, 2, 4, 8, 0, 3, 10, 16, 32, 64, 128, 255];
+/// Call targets that are read as an address, or nearly.
 #[rustfmt::skip]
 const TARGETS: [&str; 22] = [
     "", "sub_", "sub_401000", "sub_sub_401000", "+401000", "sub_+401000", "401000", "sub_FFFFFFFFFFFFFFFF", "sub_10000000000000000", "sub_-1",
     "SUB_401000", "sub_0", "sub_fff", "loc_1000", "*x", "+", "sub_4010G0", "sub_000000000000000000401000", "f", "sub_ 1000", "-401000", "&&",
 ];
+/// Targets of calls through their first argument.
 const INDIRECT: [&str; 4] = ["[", "[rax]", "[..", "[sub_401000"];
-#[rustfmt::skip]
+/// Condition codes that are none.
 const CODES: [&str; 10] = ["", "none", "E", "z", "eq", " e", "e ", "&&", "nes", ") ("];
 
 struct Odd<'a> {
@@ -58,6 +62,7 @@ struct Odd<'a> {
 }
 
 pub fn records(rng: &mut Rng) -> Records {
+    // The limits are far away; should a file pass one all the same, another is drawn.
     loop {
         let records = function(rng).records();
         if fits(&records) {
@@ -317,7 +322,7 @@ impl Odd<'_> {
         self.block.push(marks, kind);
     }
 
-    /// Something that ends, by its kind, how the value is read: printed, swallowed or dead.
+    /// A statement that reads the value: some print it, some swallow it.
     fn reader(&mut self, value: Expr) -> Kind {
         match self.rng.below(9) {
             0 => Kind::Return { value: Some(value) },

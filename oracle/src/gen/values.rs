@@ -7,7 +7,7 @@ use super::rng::Rng;
 #[derive(Default)]
 pub struct Values {
     given: [u32; 16],
-    /// Versions count down from the greatest: a phi is then not behind its inputs.
+    /// Versions count down from the top: a class's least value is then its last one.
     down: bool,
     defined: Vec<Value>,
     /// What calls and Others define: these may repeat one another.
@@ -21,7 +21,7 @@ impl Values {
 
     /// A value of `register` that nothing else defines.
     pub fn fresh(&mut self, register: u32) -> Value {
-        let count = &mut self.given[register as usize & 15];
+        let count = &mut self.given[register as usize];
         *count += 1;
         let value = (register, if self.down { u32::MAX - *count } else { *count });
         self.defined.push(value);

@@ -84,9 +84,14 @@ fn at_limits() -> Vec<Entry> {
     out
 }
 
+/// The profiles but `limits`, whose files are chosen by their limit.
+fn profiles() -> Vec<Profile> {
+    Profile::ALL.into_iter().filter(|p| *p != Profile::Limits).collect()
+}
+
 fn candidates() -> Vec<Candidate> {
     let mut out = Vec::new();
-    for profile in Profile::ALL.into_iter().filter(|p| *p != Profile::Limits) {
+    for profile in profiles() {
         for seed in 0..SEEDS {
             let file = file(profile, seed);
             if file.len() <= LARGE {
@@ -135,7 +140,7 @@ impl Choice {
         self.met.get(name).copied().unwrap_or(0)
     }
 
-    /// Takes candidate `at`, for the sake of the given names first.
+    /// Takes candidate `at`; `first` says in which order it is told what it meets.
     fn take(&mut self, left: &mut Vec<Candidate>, at: usize, first: impl Fn(&str) -> usize) {
         let c = left.swap_remove(at);
         let mut names: Vec<&String> = c.meets.iter().collect();
@@ -162,7 +167,7 @@ impl Choice {
     fn fill(&mut self, left: &mut Vec<Candidate>) {
         while self.chosen.len() < COUNT {
             let worth = |c: &Candidate| c.meets.iter().map(|n| 100_000 / (1 + self.times(n))).sum::<usize>() / (c.size + 300);
-            let profile = Profile::ALL[self.chosen.len() % (Profile::ALL.len() - 1)];
+            let profile = profiles()[self.chosen.len() % profiles().len()];
             let of = |i: &usize| matches!(left[*i].source, Source::Generated(p, _) if p == profile);
             let Some(best) = (0..left.len()).filter(of).rev().max_by_key(|i| worth(&left[*i])) else { break };
             let before = self.met.clone();
