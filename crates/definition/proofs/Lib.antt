@@ -33,3 +33,15 @@ pub mod Operands
 pub mod Merging
 pub mod Negated
 pub mod Heads
+pub mod LoweredLists
+pub mod LoweredTokens
+pub mod LoweredRender
+pub mod LoweredLines
+pub mod LoweredNames
+pub mod LoweredShapes
+pub mod LoweredLabels
+pub mod LoweredAims
+pub mod LoweredRead
+pub mod LoweredOwed
+pub mod Accepted
+pub mod Demand3

@@ -1,17 +1,17 @@
 //! `generate PROFILE SEED [COUNT]`: the function file of a profile and seed, or a batch of COUNT files from SEED on:
 //! their number and lengths, a little-endian word each, then the files one after another.
 
-use std::io::Write;
+use std::io::{self, BufWriter, Write};
 use std::process::ExitCode;
 
-use oracle::gen::{batch, file, Profile};
+use oracle::gen::{file, Profile};
 
 fn main() -> ExitCode {
     match run() {
         Ok(()) => ExitCode::SUCCESS,
         Err(message) => {
             // With stderr closed too there is nobody to tell.
-            let _ = writeln!(std::io::stderr(), "generate: {message}");
+            let _ = writeln!(io::stderr(), "generate: {message}");
             ExitCode::from(2)
         }
     }
@@ -19,18 +19,26 @@ fn main() -> ExitCode {
 
 fn run() -> Result<(), String> {
     let given: Vec<_> = std::env::args_os().skip(1).map(|a| a.to_string_lossy().into_owned()).collect();
-    let bytes = match given.as_slice() {
-        [profile, seed] => file(profile_of(profile)?, number("SEED", seed)?),
-        [profile, seed, count] => {
-            let (profile, seed) = (profile_of(profile)?, number::<u64>("SEED", seed)?);
-            let count: u32 = number("COUNT", count)?;
-            let files: Vec<Vec<u8>> = (0..u64::from(count)).map(|k| file(profile, seed.wrapping_add(k))).collect();
-            batch(&files)
-        }
+    let mut out = BufWriter::new(io::stdout().lock());
+    let written = match given.as_slice() {
+        [profile, seed] => out.write_all(&file(profile_of(profile)?, number("SEED", seed)?)),
+        [profile, seed, count] => write_batch(&mut out, profile_of(profile)?, number("SEED", seed)?, number("COUNT", count)?),
         _ => return Err(format!("usage: generate PROFILE SEED [COUNT]; profiles: {}", names())),
     };
-    let mut out = std::io::stdout().lock();
-    out.write_all(&bytes).and_then(|()| out.flush()).map_err(|e| format!("cannot write standard output: {e}"))
+    written.and_then(|()| out.flush()).map_err(|e| format!("cannot write standard output: {e}"))
+}
+
+/// Makes each file twice, for its length and for itself: together they may be more than memory holds.
+fn write_batch(out: &mut impl Write, profile: Profile, seed: u64, count: u32) -> io::Result<()> {
+    let files = || (0..u64::from(count)).map(|k| file(profile, seed.wrapping_add(k)));
+    out.write_all(&count.to_le_bytes())?;
+    for f in files() {
+        out.write_all(&(f.len() as u32).to_le_bytes())?;
+    }
+    for f in files() {
+        out.write_all(&f)?;
+    }
+    Ok(())
 }
 
 fn profile_of(name: &str) -> Result<Profile, String> {
