@@ -1,19 +1,17 @@
 -- Demand 3 for every file that edition 1 accepts, under its two premises: each live conditional branch has a destination, and no supplied
 -- name spells the label of a block. The lowered lines are those of the definition; what they owe the passes is proved of lowering.
-use mathlib.Core.Path.{_≡_, refl, sym, ap, subst, _∙_}
+use mathlib.Core.Path.{_≡_, sym, subst}
 use mathlib.Core.Bool.{true}
 use mathlib.Core.List.{List}
 use Prim.Native.Nat.{ℕ, _+_, _≤_, _<_}
 use lib.Dec.{ltb}
-use lib.ListN.{length}
 use Rattle.definition.specs.Lists.{all, count, among}
 use Rattle.definition.specs.Edition.{edition1}
 use Rattle.definition.specs.Ssa.{Function}
 use Rattle.definition.specs.Read.{read}
 use Rattle.definition.specs.Numbers.{label}
 use Rattle.definition.specs.Lookup.{order}
-use Rattle.definition.specs.Tokens.{Line}
-use Rattle.definition.specs.Passes.{ifStep, doStep, conds, aims, named, aimed, dropUnusedLabels}
+use Rattle.definition.specs.Passes.{conds, aims, named, aimed}
 use Rattle.definition.specs.Listing.{Listing, structure, list}
 use Rattle.definition.specs.Listing.Outcome.{listed}
 use Rattle.definition.proofs.Refusals.{lowered}

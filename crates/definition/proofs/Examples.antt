@@ -1,7 +1,7 @@
 -- Document 01's worked examples that are marked to be proved, computed together: numbers, slots, four-byte loads, negation.
 use mathlib.Core.Path.{_≡_, refl}
-use mathlib.Core.Bool.{Bool, true}
-use mathlib.Core.List.{List, [], _∷_, _++_}
+use mathlib.Core.Bool.{true}
+use mathlib.Core.List.{List, [], _∷_}
 use Prim.Native.Nat.{ℕ, _+_, _-_}
 use Rattle.definition.specs.Lists.{all, any, count}
 use Rattle.definition.specs.Texts.{txt, same, isEmpty, begins, contains, replace, trimEnd}

@@ -68,15 +68,6 @@ pub fn file(profile: Profile, seed: u64) -> Vec<u8> {
     records.bytes()
 }
 
-/// A batch: the number of files, the length of each, a word each, then the files one after another.
-pub fn batch(files: &[Vec<u8>]) -> Vec<u8> {
-    let lengths = files.iter().map(Vec::len);
-    let words = std::iter::once(files.len()).chain(lengths);
-    let mut out: Vec<u8> = words.flat_map(|n| (n as u32).to_le_bytes()).collect();
-    out.extend(files.iter().flatten());
-    out
-}
-
 /// The seeds of profile `limits` up to this one meet every limit on both sides.
 pub fn limits() -> u64 {
     2 * limits::count()

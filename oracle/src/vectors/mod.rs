@@ -5,7 +5,7 @@ mod choose;
 use std::fs;
 use std::path::{Path, PathBuf};
 
-use crate::gen::{batch, file, Profile};
+use crate::gen::{file, Profile};
 use crate::list::{answer, Mode};
 use crate::text::make;
 
@@ -88,6 +88,15 @@ pub fn bytes(repository: &Path, source: &Source) -> Result<Vec<u8>, String> {
             Ok(records.bytes())
         }
     }
+}
+
+/// A batch: the number of files, the length of each, a word each, then the files one after another.
+fn batch(files: &[Vec<u8>]) -> Vec<u8> {
+    let lengths = files.iter().map(Vec::len);
+    let words = std::iter::once(files.len()).chain(lengths);
+    let mut out: Vec<u8> = words.flat_map(|n| (n as u32).to_le_bytes()).collect();
+    out.extend(files.iter().flatten());
+    out
 }
 
 /// What `files.bin` and `answers.txt` have to hold for the list as stored.
