@@ -1,4 +1,5 @@
 pub mod Examples
+pub mod Computed
 pub mod Refusals
 pub mod Bools
 pub mod ListLaws
