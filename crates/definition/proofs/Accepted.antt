@@ -14,32 +14,25 @@ use Rattle.definition.specs.Edition.{Edition, Room}
 use Rattle.definition.specs.Read.{read}
 use Rattle.definition.specs.Offsets.{offsets}
 use Rattle.definition.specs.Numbers.{label}
-use Rattle.definition.specs.Tokens.{Token, Line, symbol, punct, line, merge}
-use Rattle.definition.specs.Lower.{gotoTokens}
+use Rattle.definition.specs.Tokens.{Line, symbol, punct, line, merge}
 use Rattle.definition.specs.Sorts.{Sort, sort}
 use Rattle.definition.specs.Passes.{condName, conds}
 use Rattle.definition.specs.Listing.{Listing, tokenCount, byteCount, refused8, structure, list}
 use Rattle.definition.specs.Listing.Outcome.{listed}
+use Rattle.definition.proofs.Bools.{both-false}
+use Rattle.definition.proofs.ListLaws.{count-length, each-to}
 use Rattle.definition.proofs.Refusals.{lowered, holds, accepts, accepted-when}
-use Rattle.definition.proofs.ListLaws.{count-length}
-use Rattle.definition.proofs.Merge.{NoGoto}
-use Rattle.definition.proofs.Fits.{FitAs, FitLine, Fits}
-use Rattle.definition.proofs.Shape.{fit}
-use Rattle.definition.proofs.Plain.{FlatAs, Flat, Plain}
+use Rattle.definition.proofs.TokenSorts.{ifTokens, if-sort, label-line}
+use Rattle.definition.proofs.Fits.{FitAs, FitLine}
+use Rattle.definition.proofs.IfGoto.{fit}
+use Rattle.definition.proofs.Plain.{FlatAs, Plain}
 use Rattle.definition.proofs.Structured.{shaped}
-use Rattle.definition.proofs.LoweredLists.{neither, end, _▸_}
-use Rattle.definition.proofs.LoweredLists.{Each as Every}
-use Rattle.definition.proofs.LoweredTokens.{Calm, ifTokens, if-sort, label-sort}
 use Rattle.definition.proofs.LoweredLines.{Stated}
 use Rattle.definition.proofs.LoweredLines.Stated.{conditional, jump, simple}
-use Rattle.definition.proofs.LoweredShapes.{Shaped}
-use Rattle.definition.proofs.LoweredShapes.Shaped.{labelled, stated}
+use Rattle.definition.proofs.LoweredShapes.{LineShape}
+use Rattle.definition.proofs.LoweredShapes.LineShape.{labelled, stated}
 use Rattle.definition.proofs.LoweredRead.{endsWithText}
 use Rattle.definition.proofs.LoweredOwed.{Owed, owed}
-
-no-goto : {C : List Token} → Every Calm C → NoGoto C
-no-goto end = tt
-no-goto (c ▸ cs) = (c, no-goto cs)
 
 -- ---- a shaped line is flat and fits
 module _ {P : List ℕ → Type 0} where
@@ -49,30 +42,22 @@ module _ {P : List ℕ → Type 0} where
   flat-stated (jump a ts t e p) = subst (λ (s : Sort). FlatAs s 1) (sym e) refl
   flat-stated (simple a ts e) = subst (λ (s : Sort). FlatAs s 1) (sym e) refl
 
-  flat-shaped : {x : Line} → Shaped P x → FlatAs (sort x) (x .indent)
+  flat-shaped : {x : Line} → LineShape P x → FlatAs (sort x) (x .indent)
   unfolding line
-  flat-shaped (labelled a) = subst (λ (s : Sort). FlatAs s 0) (sym (label-sort (label a))) refl
+  flat-shaped (labelled a) = subst (λ (s : Sort). FlatAs s 0) (sym (label-line (label a))) refl
   flat-shaped (stated s) = flat-stated s
 
 fit-stated : {x : Line} → Stated (λ s. 1 ≤ length s) x → FitLine x
-unfolding line condName gotoTokens
+unfolding line condName
 fit-stated (conditional a C t c p) =
-    subst (λ (s : Sort). FitAs (merge (ifTokens C t)) (condName s)) (sym (if-sort C t c)) (fit C t (no-goto c) p)
+    subst (λ (s : Sort). FitAs (merge (ifTokens C (symbol t))) (condName s)) (sym (if-sort C t c)) (fit C t c p)
 fit-stated (jump a ts t e p) = subst (λ (s : Sort). FitAs (merge ts) (condName s)) (sym e) tt
 fit-stated (simple a ts e) = subst (λ (s : Sort). FitAs (merge ts) (condName s)) (sym e) tt
 
-fit-shaped : {x : Line} → Shaped (λ s. 1 ≤ length s) x → FitLine x
+fit-shaped : {x : Line} → LineShape (λ s. 1 ≤ length s) x → FitLine x
 unfolding line condName
-fit-shaped (labelled a) = subst (λ (s : Sort). FitAs (merge (symbol (label a) ∷ punct (txt ":") ∷ [])) (condName s)) (sym (label-sort (label a))) tt
+fit-shaped (labelled a) = subst (λ (s : Sort). FitAs (merge (symbol (label a) ∷ punct (txt ":") ∷ [])) (condName s)) (sym (label-line (label a))) tt
 fit-shaped (stated s) = fit-stated s
-
-flat-lines : {ls : List Line} → Every (Shaped (λ s. 1 ≤ length s)) ls → Flat ls
-flat-lines end = tt
-flat-lines (s ▸ ss) = (flat-shaped s, flat-lines ss)
-
-fit-lines : {ls : List Line} → Every (Shaped (λ s. 1 ≤ length s)) ls → Fits ls
-fit-lines end = tt
-fit-lines (s ▸ ss) = (fit-shaped s, fit-lines ss)
 
 -- ---- refusal 8: within the limits exactly when it is not given
 pub record Within (R : Room) (ls : List Line) : Type 0 where
@@ -83,8 +68,8 @@ pub record Within (R : Room) (ls : List Line) : Type 0 where
 pub within : (R : Room) (ls : List Line) → refused8 R ls ≡ false → Within R ls
 unfolding refused8
 within R ls h =
-    let a = neither (ltb (R .lines) (length ls) || ltb (R .tokens) (tokenCount ls)) (ltb (R .bytes) (byteCount ls)) h in
-    let b = neither (ltb (R .lines) (length ls)) (ltb (R .tokens) (tokenCount ls)) (a .0) in
+    let a = both-false (ltb (R .lines) (length ls) || ltb (R .tokens) (tokenCount ls)) (ltb (R .bytes) (byteCount ls)) h in
+    let b = both-false (ltb (R .lines) (length ls)) (ltb (R .tokens) (tokenCount ls)) (a .0) in
     record { lines = ltb-false _ _ (b .0); tokens = ltb-false _ _ (b .1); bytes = ltb-false _ _ (a .1) }
 
 pub not-eight : (R : Room) (ls : List Line) → Within R ls → refused8 R ls ≡ false
@@ -108,7 +93,7 @@ module _ (E : Edition) (ends : endsWithText (E .sections) ≡ true) (f : List �
 
   -- the passes' premises
   pub is-plain : Plain (lowered E f)
-  is-plain = record { flat = flat-lines (owes .shaped); fits = fit-lines (owes .shaped); once = λ t a. owes .once t }
+  is-plain = record { flat = each-to (λ x. flat-shaped) (owes .shaped); fits = each-to (λ x. fit-shaped) (owes .shaped); once = λ t a. owes .once t }
 
   -- the finished listing has room: at most twice the lines, and no more tokens and text than lowering wrote
   pub roomy : Within (record { lines = E .lowered .lines + E .lowered .lines; tokens = E .lowered .tokens; bytes = E .lowered .bytes }) (L .lines)

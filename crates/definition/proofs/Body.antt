@@ -9,7 +9,8 @@ use Rattle.definition.specs.Sorts.{Sort, sort}
 use Rattle.definition.specs.Sorts.Sort.{label, condTo, jumpTo, plain, ifOpen, close, doOpen, whileClose}
 use Rattle.definition.specs.Passes.{raise, raised, opened, closer, doLine, whileLine, formIf, formDo}
 use Rattle.definition.proofs.ListLaws.{only-append}
-use Rattle.definition.proofs.Fits.{Fit, close-sort, do-sort}
+use Rattle.definition.proofs.TokenSorts.{close-sort, do-sort}
+use Rattle.definition.proofs.Fits.{Fit}
 
 -- neither a label nor a conditional jump nor a region's own line
 unfoldable pub stays : Sort → Bool

@@ -1,15 +1,18 @@
 -- Tokens in which `negate` sees no comparison. A walk over their punctuation keeps how many parentheses are open and whether a `<`, `=` or `>`
 -- stands in this run of Punct; `negate` asks for a comparison only where no parenthesis is open, and there the walk has met none.
 use mathlib.Core.Path.{_≡_, refl, sym, ap, subst, subst⁻¹, _∙_}
-use mathlib.Core.Bool.{Bool, true, false, cond, _&&_, _||_, and-false, and-eq-true-iff}
+use mathlib.Core.Bool.{Bool, true, false, cond, _&&_, and-false}
 use mathlib.Core.List.{List, [], _∷_, _++_, map}
 use Prim.Native.Nat.{ℕ, zero, suc, _+_}
 use native.Mathlib.Omega.{arith}
 use borrow.Author.Tests.{ne-eqb, eqb-true}
 use lib.Dec.{eqb}
 use Rattle.definition.specs.Lists.{any, count}
-use Rattle.definition.specs.Tokens.{Token, tok, punct, joins, join, merge}
+use Rattle.definition.specs.Tokens.{Token, tok, punct, join, merge}
 use Rattle.definition.specs.Negate.{compares, comparisons}
+use Rattle.definition.proofs.Bools.{by-test}
+use Rattle.definition.proofs.ListLaws.{bit, count-cons}
+use Rattle.definition.proofs.Merge.{by-join}
 use Rattle.definition.proofs.Signs.{sharp, Dull, sharp-apart, compares-dull}
 
 pub data Depth : Type 0 where
@@ -78,22 +81,14 @@ cool-cool lost = refl
 -- merged tokens are walked as they were before
 pass-two : (s : Depth) (k : ℕ) (x y : List ℕ) → pass s (tok k (x ++ y)) ≡ pass (pass s (tok k x)) (tok k y)
 unfolding pass
-pass-two s k x y = go (eqb k 6) refl
-  where
-    go : (b : Bool) → eqb k 6 ≡ b → pass s (tok k (x ++ y)) ≡ pass (pass s (tok k x)) (tok k y)
-    go true h = rw h (bytes-append s x y)
-    go false h = rw h (sym (cool-cool s))
+pass-two s k x y = by-test (eqb k 6) (λ h. rw h (bytes-append s x y)) (λ h. rw h (sym (cool-cool s)))
 
 walk-join : (s : Depth) (t : Token) (us : List Token) → walk s (join t us) ≡ walk s (t ∷ us)
-unfolding walk join joins
+unfolding walk join
 walk-join s t [] = refl
-walk-join s t (u ∷ us) = go (joins t u) refl
-  where
-    go : (b : Bool) → joins t u ≡ b → walk s (cond (joins t u) (tok (t .kind) (t .text ++ u .text) ∷ us) (t ∷ u ∷ us)) ≡ walk s (t ∷ u ∷ us)
-    go true h =
-        let k : t .kind ≡ u .kind = eqb-true (t .kind) (u .kind) (and-eq-true-iff (eqb (t .kind) (u .kind)) (eqb (t .kind) 6 || eqb (t .kind) 0) .0 h .0) in
-        rw h (ap (λ (z : Depth). walk z us) (pass-two s (t .kind) (t .text) (u .text) ∙ ap (λ (n : ℕ). pass (pass s t) (tok n (u .text))) k))
-    go false h = rw h
+walk-join s t (u ∷ us) =
+    by-join (λ z. walk s z ≡ walk s (t ∷ u ∷ us)) t u us
+    (λ j. ap (λ (z : Depth). walk z us) (pass-two s (t .kind) (t .text) (u .text) ∙ ap (λ (n : ℕ). pass (pass s t) (tok n (u .text))) (j .alike))) refl
 
 pub walk-merge : (s : Depth) (ts : List Token) → walk s (merge ts) ≡ walk s ts
 unfolding walk merge
@@ -173,15 +168,15 @@ warm-heat lost = tt
 pub dull-outside : (s : Depth) (t : List ℕ) → bytes s t ≡ cold 0 → Dull t
 unfolding bytes byte any sharp
 dull-outside s [] e = refl
-dull-outside s (b ∷ t) e = go (sharp b) refl (dull-outside (byte s b) t e)
-  where
-    go : (x : Bool) → sharp b ≡ x → Dull t → (sharp b || any sharp t) ≡ false
-    go true h d =
-        let p = ne-eqb 40 b (λ q. sharp-apart b 40 h refl (sym q)) in
-        let r = ne-eqb 41 b (λ q. sharp-apart b 41 h refl (sym q)) in
-        let w : Warm (byte s b) = rw (p, r, h) (warm-heat s) in
-        absurd (subst Warm e (warm-bytes (byte s b) t w))
-    go false h d = rw h d
+dull-outside s (b ∷ t) e =
+    let d = dull-outside (byte s b) t e in
+    by-test (sharp b)
+    (λ h.
+    let p = ne-eqb 40 b (λ q. sharp-apart b 40 h refl (sym q)) in
+    let r = ne-eqb 41 b (λ q. sharp-apart b 41 h refl (sym q)) in
+    let w : Warm (byte s b) = rw (p, r, h) (warm-heat s) in
+    absurd (subst Warm e (warm-bytes (byte s b) t w)))
+    (λ h. rw h d)
 
 -- ---- the parentheses counted
 unfoldable pub depth : Depth → ℕ
@@ -215,24 +210,12 @@ cool-depth (cold d) = refl
 cool-depth (hot d) = refl
 cool-depth lost = refl
 
-one : Bool → ℕ
-one true = 1
-one false = 0
-
-count-cons : (p : ℕ → Bool) (b : ℕ) (t : List ℕ) → count p (b ∷ t) ≡ one (p b) + count p t
-unfolding count one
-count-cons p b t = go (p b)
-  where
-    go : (x : Bool) → cond x (suc (count p t)) (count p t) ≡ one x + count p t
-    go true = omega arith
-    go false = omega arith
-
-byte-depth : (s : Depth) (b : ℕ) → Live (byte s b) → depth (byte s b) + one (eqb 41 b) ≡ depth s + one (eqb 40 b)
-unfolding byte one
+byte-depth : (s : Depth) (b : ℕ) → Live (byte s b) → depth (byte s b) + bit (eqb 41 b) ≡ depth s + bit (eqb 40 b)
+unfolding byte
 byte-depth s b = go (eqb 40 b) (eqb 41 b) (sharp b) refl refl
   where
     go : (x y z : Bool) → eqb 40 b ≡ x → eqb 41 b ≡ y → Live (cond x (up s) (cond y (down s) (cond z (heat s) s)))
-        → depth (cond x (up s) (cond y (down s) (cond z (heat s) s))) + one y ≡ depth s + one x
+        → depth (cond x (up s) (cond y (down s) (cond z (heat s) s))) + bit y ≡ depth s + bit x
     go true true z p q l = let e = eqb-true 40 b p ∙ sym (eqb-true 41 b q) in absurd (omega arith)
     go true false z p q l = omega (arith, up-depth s l)
     go false true z p q l = omega (arith, down-depth s l)
@@ -246,7 +229,7 @@ unfolding bytes count
 counted s [] o c l h = omega arith
 counted s (b ∷ t) o c l h =
     let k = byte-depth s b (live-bytes (byte s b) t l) in
-    let ih = counted (byte s b) t (o + one (eqb 40 b)) (c + one (eqb 41 b)) l (omega arith) in
+    let ih = counted (byte s b) t (o + bit (eqb 40 b)) (c + bit (eqb 41 b)) l (omega arith) in
     rw (count-cons (eqb 40) b t, count-cons (eqb 41) b t) (omega arith)
 
 -- ---- no comparison is marked

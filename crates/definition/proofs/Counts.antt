@@ -15,9 +15,12 @@ use Rattle.definition.specs.Sorts.Sort.{label, condTo, ifOpen, close, do
 use Rattle.definition.specs.Negate.{closeTokens, doTokens}
 use Rattle.definition.specs.Passes.{labelName, aimName, condName, is, named, aims, aimed, conds, raise, raised, opened, closer, doLine, whileLine, formIf, formDo}
 use Rattle.definition.specs.Listing.{tokenCount, byteCount}
-use Rattle.definition.proofs.Bools.{none-some, and-left, same-eq, same-refl}
+use Rattle.definition.proofs.Bools.{none-some, both-true}
+use Rattle.definition.proofs.TextLaws.{same-eq, same-refl}
 use Rattle.definition.proofs.ListLaws.{bit, total-append, total-map, total-length, bit-le, count-total, count-append, count-at, any-none}
-use Rattle.definition.proofs.Fits.{size, Fit, close-sort, do-sort}
+use Rattle.definition.proofs.Merge.{size}
+use Rattle.definition.proofs.TokenSorts.{close-sort, do-sort}
+use Rattle.definition.proofs.Fits.{Fit}
 
 -- a sum that raising does not change
 module _ (f : Line → ℕ) (r : (x : Line) → f (raise x) ≡ f x) where
@@ -101,14 +104,14 @@ unfolding isLabel firstText textOf
 two-tokens [] e = absurd (false≢true e)
 two-tokens (t ∷ []) e = absurd (false≢true e)
 two-tokens (t ∷ u ∷ []) e =
-    let c : u .text ≡ txt ":" = same-eq _ _ (and-left (same (u .text) (txt ":")) (eqb (t .kind) 4) e) in
+    let c : u .text ≡ txt ":" = same-eq _ _ (both-true (same (u .text) (txt ":")) (eqb (t .kind) 4) e .0) in
     (length-append (t .text) (u .text ++ []) ∙ ap (λ (z : List ℕ). length (t .text) + length (z ++ [])) c, refl)
 two-tokens (t ∷ u ∷ v ∷ ts) e = absurd (false≢true e)
 
 -- and no other line is a label
-no-label : (ts : List Token) (o : Option (List ℕ)) → labelName (sortAt false o ts) ≡ none
+sort-no-label : (ts : List Token) (o : Option (List ℕ)) → labelName (sortAt false o ts) ≡ none
 unfolding sortAt sortRest sortJump labelName
-no-label ts none = go (firstIs (keyword (txt "if")) ts) (firstIs (keyword (txt "do")) ts) (firstIs (punct (txt "}")) ts) (firstIs (punct (txt "} ")) ts)
+sort-no-label ts none = go (firstIs (keyword (txt "if")) ts) (firstIs (keyword (txt "do")) ts) (firstIs (punct (txt "}")) ts) (firstIs (punct (txt "} ")) ts)
   where
     go : (p q r s : Bool) → labelName (cond p ifOpen (cond q doOpen (cond r close (cond s whileClose plain)))) ≡ none
     go true q r s = refl
@@ -116,7 +119,7 @@ no-label ts none = go (firstIs (keyword (txt "if")) ts) (firstIs (keyword (txt "
     go false false true s = refl
     go false false false true = refl
     go false false false false = refl
-no-label ts (some u) = go (firstIs (keyword (txt "if")) ts)
+sort-no-label ts (some u) = go (firstIs (keyword (txt "if")) ts)
   where
     go : (b : Bool) → labelName (sortJump b u) ≡ none
     go true = refl
@@ -125,7 +128,7 @@ no-label ts (some u) = go (firstIs (keyword (txt "if")) ts)
 label-at : (ts : List Token) (t : List ℕ) (b : Bool) → isLabel ts ≡ b → (o : Option (List ℕ)) → sortAt b o ts ≡ label t → (isLabel ts ≡ true) × (firstText ts ≡ t)
 unfolding sortAt labelName
 label-at ts t true eb o e = (eb, (cc))
-label-at ts t false eb o e = none-some {a = t} (sym (no-label ts o) ∙ ap labelName e)
+label-at ts t false eb o e = none-some {a = t} (sym (sort-no-label ts o) ∙ ap labelName e)
 
 label-size : (ts : List Token) (t : List ℕ) → sortOf ts ≡ label t → (size ts ≡ length t + 1) × (length ts ≡ 2)
 unfolding sortOf

@@ -1,6 +1,6 @@
 -- The condition taken out of ` (C) `: a leading ` (` and a trailing `) ` go, so it has no more text than C, no more tokens and no `goto`.
 use mathlib.Core.Path.{_≡_, refl, sym, ap, _∙_}
-use mathlib.Core.Bool.{Bool, false, not, cond, and-false}
+use mathlib.Core.Bool.{Bool, not, cond, and-false}
 use mathlib.Core.List.{List, [], _∷_, _++_, append-assoc}
 use Prim.Native.Nat.{ℕ, zero, suc, _+_, _≤_}
 use native.Mathlib.Omega.{arith}
@@ -8,12 +8,20 @@ use lib.Dec.{eqb}
 use lib.ListN.{length, drop, length-append, length-drop}
 use Rattle.definition.specs.Texts.{txt, same, isEmpty, begins, shed, trimStart, cutEnd}
 use Rattle.definition.specs.Lists.{only}
-use Rattle.definition.specs.Tokens.{Token, tok, punct, join, merge}
-use Rattle.definition.specs.Negate.{trimFirst, cutLast}
-use Rattle.definition.proofs.Bools.{same-refl, same-eq, is-false, by-cond}
-use Rattle.definition.proofs.ListLaws.{total-only, total-length}
-use Rattle.definition.proofs.Fits.{size}
-use Rattle.definition.proofs.Merge.{NoGoto, no-keyword, by-join, size-cons}
+use Rattle.definition.specs.Tokens.{Token, tok, keyword, punct, join, merge}
+use Rattle.definition.specs.Sorts.{isTok}
+use Rattle.definition.specs.Negate.{beforeGoto, trimFirst, cutLast}
+use Rattle.definition.proofs.Bools.{by-cond}
+use Rattle.definition.proofs.TextLaws.{cut-end}
+use Rattle.definition.proofs.ListLaws.{total-only, total-length, _▸_, end}
+use Rattle.definition.proofs.Merge.{size, NoGoto, no-keyword, by-join, size-cons}
+
+-- ---- before the `goto`
+pub before-goto : {m : List Token} (r : List Token) → NoGoto m → beforeGoto (m ++ keyword (txt "goto") ∷ r) ≡ m
+unfolding beforeGoto isTok same
+before-goto r end = refl
+before-goto r (_▸_ {x = t} {xs = m} c h) =
+    ap (λ (b : Bool). cond b [] (t ∷ beforeGoto (m ++ keyword (txt "goto") ∷ r))) c ∙ ap (λ (l : List Token). t ∷ l) (before-goto r h)
 
 -- ---- the two ends
 abbrev pub Starts : List Token → Type 0
@@ -28,13 +36,13 @@ Finishes (t ∷ u ∷ us) = Finishes (u ∷ us)
 pub starts-join : (us : List Token) → Starts (join (punct (txt " (")) us)
 unfolding join
 starts-join [] = (refl, ([], refl))
-starts-join (u ∷ us) = by-join Starts (punct (txt " (")) u us (λ e n. (refl, (u .text, refl))) (refl, ([], refl))
+starts-join (u ∷ us) = by-join Starts (punct (txt " (")) u us (λ j. (refl, (u .text, refl))) (refl, ([], refl))
 
 ends-join : (t : Token) (us : List Token) → Finishes us → Finishes (join t us)
 ends-join t [] h = absurd h
 ends-join t (u ∷ []) h =
-    by-join Finishes t u [] (λ e n. (e ∙ h .0, (t .text ++ h .1 .0, ap (λ (z : List ℕ). t .text ++ z) (h .1 .1) ∙ sym (append-assoc (t .text) (h .1 .0) (txt ") "))))) h
-ends-join t (u ∷ v ∷ vs) h = by-join Finishes t u (v ∷ vs) (λ e n. h) h
+    by-join Finishes t u [] (λ j. (j .alike ∙ h .0, (t .text ++ h .1 .0, ap (λ (z : List ℕ). t .text ++ z) (h .1 .1) ∙ sym (append-assoc (t .text) (h .1 .0) (txt ") "))))) h
+ends-join t (u ∷ v ∷ vs) h = by-join Finishes t u (v ∷ vs) (λ j. h) h
 
 pub ends-merge : (xs : List Token) → Finishes (merge (xs ++ (punct (txt ") ") ∷ [])))
 unfolding merge join
@@ -49,22 +57,14 @@ shed-ends (suc n) [] = ([], refl)
 shed-ends (suc n) (a ∷ []) = (a ∷ [], ap (λ (b : Bool). cond b (shed n (txt " (") (txt " ")) (a ∷ txt ") ")) (and-false (eqb 32 a)))
 shed-ends (suc n) (a ∷ b ∷ r) =
     let i = shed-ends n r in
-    by-cond (λ z. (y : List ℕ) × (z ≡ y ++ txt ") ")) (begins (txt " (") (a ∷ b ∷ (r ++ txt ") "))) _ _ (λ e. i) (λ e. (a ∷ b ∷ r, refl))
+    by-cond (λ z. (y : List ℕ) × (z ≡ y ++ txt ") ")) (begins (txt " (") (a ∷ b ∷ (r ++ txt ") "))) (λ e. i) (λ e. (a ∷ b ∷ r, refl))
 
 shed-length : (n : ℕ) (w s : List ℕ) → length (shed n w s) ≤ length s
 unfolding shed
 shed-length zero w s = omega arith
 shed-length (suc n) w s =
-    by-cond (λ z. length z ≤ length s) (begins w s) (shed n w (drop (length w) s)) s
+    by-cond (λ z. length z ≤ length s) (begins w s) {x = shed n w (drop (length w) s)}
     (λ e. omega (arith, shed-length n w (drop (length w) s), length-drop (length w) s)) (λ e. omega arith)
-
-cut-end : (c : ℕ) (w r : List ℕ) → cutEnd (c ∷ w) (r ++ c ∷ w) ≡ r
-unfolding cutEnd
-cut-end c w [] = ap (λ (b : Bool). cond b [] (c ∷ cutEnd (c ∷ w) w)) (same-refl (c ∷ w))
-cut-end c w (a ∷ r) =
-    let no : same (a ∷ (r ++ c ∷ w)) (c ∷ w) ≡ false =
-    is-false _ (λ e. omega (arith, ap length (same-eq (a ∷ (r ++ c ∷ w)) (c ∷ w) e), length-append r (c ∷ w))) in
-    ap (λ (b : Bool). cond b [] (a ∷ cutEnd (c ∷ w) (r ++ c ∷ w))) no ∙ ap (λ (l : List ℕ). a ∷ l) (cut-end c w r)
 
 -- ---- the tokens cut
 pub ends-trim : (m : List Token) → Finishes m → Finishes (trimFirst m)
@@ -113,13 +113,13 @@ cut-length (t ∷ u ∷ us) = ap suc (cut-length (u ∷ us))
 pub trim-nogoto : (m : List Token) → Starts m → NoGoto m → NoGoto (trimFirst m)
 unfolding trimFirst
 trim-nogoto [] h k = k
-trim-nogoto (t ∷ ts) h k = (no-keyword _ (ap (λ (n : ℕ). eqb n 3) (h .0)), k .1)
+trim-nogoto (t ∷ ts) h (c ▸ k) = no-keyword _ (ap (λ (n : ℕ). eqb n 3) (h .0)) ▸ k
 
 pub cut-nogoto : (m : List Token) → Finishes m → NoGoto m → NoGoto (cutLast m)
 unfolding cutLast
 cut-nogoto [] h k = k
-cut-nogoto (t ∷ []) h k = (no-keyword _ (ap (λ (n : ℕ). eqb n 3) (h .0)), tt)
-cut-nogoto (t ∷ u ∷ us) h k = (k .0, cut-nogoto (u ∷ us) h (k .1))
+cut-nogoto (t ∷ []) h k = no-keyword _ (ap (λ (n : ℕ). eqb n 3) (h .0)) ▸ end
+cut-nogoto (t ∷ u ∷ us) h (c ▸ k) = c ▸ cut-nogoto (u ∷ us) h k
 
 -- ---- the tokens with a text
 abbrev pub filled : Token → Bool

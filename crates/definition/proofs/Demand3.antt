@@ -14,8 +14,8 @@ use Rattle.definition.specs.Lookup.{order}
 use Rattle.definition.specs.Passes.{conds, aims, named, aimed}
 use Rattle.definition.specs.Listing.{Listing, structure, list}
 use Rattle.definition.specs.Listing.Outcome.{listed}
-use Rattle.definition.proofs.Refusals.{lowered}
 use Rattle.definition.proofs.ListLaws.{Each, count-any}
+use Rattle.definition.proofs.Refusals.{lowered}
 use Rattle.definition.proofs.Steps.{Run, run, few, unguarded}
 use Rattle.definition.proofs.Plain.{Plain, Met}
 use Rattle.definition.proofs.Structured.{Shaped, Structured, shaped, structured}

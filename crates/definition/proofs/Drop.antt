@@ -11,7 +11,8 @@ use Rattle.definition.specs.Tokens.{Line}
 use Rattle.definition.specs.Sorts.{Sort, sort}
 use Rattle.definition.specs.Sorts.Sort.{label}
 use Rattle.definition.specs.Passes.{labelName, aimName, is, named, aims, aimed, kept}
-use Rattle.definition.proofs.Bools.{is-false, by-test, by-cond, same-eq}
+use Rattle.definition.proofs.Bools.{is-false, by-test, by-cond}
+use Rattle.definition.proofs.TextLaws.{same-eq}
 use Rattle.definition.proofs.ListLaws.{count-only, count-only-none, any-count, count-any}
 use Rattle.definition.proofs.SortLaws.{is-some, label-sort}
 use Rattle.definition.proofs.Nest.{Mark, Act, Nest}
@@ -35,7 +36,7 @@ module _ (all : List Line) where
   drop-nest s [] s′ h = h
   drop-nest s (x ∷ xs) s′ h =
       let r = drop-nest (h .0) xs s′ (h .2) in
-      by-cond (λ z. Nest s z s′) (keep x) (x ∷ only keep xs) (only keep xs) (λ e. (h .0, h .1, r))
+      by-cond (λ z. Nest s z s′) (keep x) (λ e. (h .0, h .1, r))
       (λ e. subst (λ (z : List Mark). Nest z (only keep xs) s′) (subst (λ (k : Sort). Act k s (x .indent) (h .0)) (dropped x e .1) (h .1) .1) r)
 
   pub drop-body : (xs : List Line) → body (only keep xs) ≡ body xs
@@ -43,7 +44,7 @@ module _ (all : List Line) where
   drop-body [] = refl
   drop-body (x ∷ xs) =
       let r = drop-body xs in
-      by-cond (λ z. body z ≡ body (x ∷ xs)) (keep x) (x ∷ only keep xs) (only keep xs)
+      by-cond (λ z. body z ≡ body (x ∷ xs)) (keep x)
       (λ e. body-append (x ∷ []) (only keep xs) ∙ ap (λ (z : List Line). body (x ∷ []) ++ z) r ∙ sym (body-append (x ∷ []) xs))
       (λ e. let d = dropped x e in r ∙ sym (body-skip x (label (d .0)) xs (d .1) refl))
 

@@ -1,30 +1,21 @@
--- Two expressions that `==` calls equal are equal: by induction over both, with the same for texts and values.
-use mathlib.Core.Path.{_≡_, refl, ap, ap₂}
-use mathlib.Core.Bool.{true, _&&_, and-eq-true-iff, false≢true}
-use mathlib.Core.List.{List, [], _∷_}
-use Prim.Native.Nat.{ℕ}
+-- Two expressions that `==` calls equal are equal, by induction over the two, and so are values.
+use mathlib.Core.Path.{_≡_, ap, ap₂}
+use mathlib.Core.Bool.{true, _&&_, false≢true}
 use borrow.Author.Tests.{eqb-true}
 use lib.Dec.{eqb}
 use Rattle.definition.specs.Texts.{same}
 use Rattle.definition.specs.Values.{Value, eqv}
 use Rattle.definition.specs.Ssa.{Expr, eqe}
 use Rattle.definition.specs.Ssa.Expr.{Const, Use, Bin, Un, Load, Opaque}
-
-pub same-true : (s t : List ℕ) → same s t ≡ true → s ≡ t
-unfolding same
-same-true [] [] h = refl
-same-true [] (c ∷ t) h = absurd (false≢true h)
-same-true (b ∷ s) [] h = absurd (false≢true h)
-same-true (b ∷ s) (c ∷ t) h =
-    let both = and-eq-true-iff (eqb b c) (same s t) .0 h in
-    ap₂ _∷_ (eqb-true b c (both .0)) (same-true s t (both .1))
+use Rattle.definition.proofs.Bools.{both-true}
+use Rattle.definition.proofs.TextLaws.{same-eq}
 
 eqv-true : (v u : Value) → eqv v u ≡ true → v ≡ u
 unfolding eqv
 eqv-true v u h =
-    let both = and-eq-true-iff (eqb (v .reg) (u .reg)) (eqb (v .ver) (u .ver)) .0 h in
-    let r = eqb-true (v .reg) (u .reg) (both .0) in
-    let n = eqb-true (v .ver) (u .ver) (both .1) in
+    let q = both-true (eqb (v .reg) (u .reg)) (eqb (v .ver) (u .ver)) h in
+    let r = eqb-true (v .reg) (u .reg) (q .0) in
+    let n = eqb-true (v .ver) (u .ver) (q .1) in
     λ i. record { reg = r i; ver = n i }
 
 pub eqe-true : (x y : Expr) → eqe x y ≡ true → x ≡ y
@@ -44,10 +35,10 @@ eqe-true (Use v) (Opaque t) h = absurd (false≢true h)
 eqe-true (Bin o x y) (Const d) h = absurd (false≢true h)
 eqe-true (Bin o x y) (Use u) h = absurd (false≢true h)
 eqe-true (Bin o x y) (Bin q z w) h =
-    let ends = and-eq-true-iff (same o q && eqe x z) (eqe y w) .0 h in
-    let both = and-eq-true-iff (same o q) (eqe x z) .0 (ends .0) in
-    let p = same-true o q (both .0) in
-    let l = eqe-true x z (both .1) in
+    let ends = both-true (same o q && eqe x z) (eqe y w) h in
+    let h₂ = both-true (same o q) (eqe x z) (ends .0) in
+    let p = same-eq o q (h₂ .0) in
+    let l = eqe-true x z (h₂ .1) in
     let r = eqe-true y w (ends .1) in
     λ i. Bin (p i) (l i) (r i)
 eqe-true (Bin o x y) (Un q z) h = absurd (false≢true h)
@@ -57,8 +48,8 @@ eqe-true (Un o x) (Const d) h = absurd (false≢true h)
 eqe-true (Un o x) (Use u) h = absurd (false≢true h)
 eqe-true (Un o x) (Bin q z w) h = absurd (false≢true h)
 eqe-true (Un o x) (Un q z) h =
-    let both = and-eq-true-iff (same o q) (eqe x z) .0 h in
-    ap₂ Un (same-true o q (both .0)) (eqe-true x z (both .1))
+    let h₂ = both-true (same o q) (eqe x z) h in
+    ap₂ Un (same-eq o q (h₂ .0)) (eqe-true x z (h₂ .1))
 eqe-true (Un o x) (Load n z) h = absurd (false≢true h)
 eqe-true (Un o x) (Opaque t) h = absurd (false≢true h)
 eqe-true (Load m x) (Const d) h = absurd (false≢true h)
@@ -66,12 +57,12 @@ eqe-true (Load m x) (Use u) h = absurd (false≢true h)
 eqe-true (Load m x) (Bin q z w) h = absurd (false≢true h)
 eqe-true (Load m x) (Un q z) h = absurd (false≢true h)
 eqe-true (Load m x) (Load n z) h =
-    let both = and-eq-true-iff (eqb m n) (eqe x z) .0 h in
-    ap₂ Load (eqb-true m n (both .0)) (eqe-true x z (both .1))
+    let q = both-true (eqb m n) (eqe x z) h in
+    ap₂ Load (eqb-true m n (q .0)) (eqe-true x z (q .1))
 eqe-true (Load m x) (Opaque t) h = absurd (false≢true h)
 eqe-true (Opaque s) (Const d) h = absurd (false≢true h)
 eqe-true (Opaque s) (Use u) h = absurd (false≢true h)
 eqe-true (Opaque s) (Bin q z w) h = absurd (false≢true h)
 eqe-true (Opaque s) (Un q z) h = absurd (false≢true h)
 eqe-true (Opaque s) (Load n z) h = absurd (false≢true h)
-eqe-true (Opaque s) (Opaque t) h = ap Opaque (same-true s t h)
+eqe-true (Opaque s) (Opaque t) h = ap Opaque (same-eq s t h)

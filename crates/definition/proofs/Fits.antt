@@ -4,16 +4,14 @@ use mathlib.Core.Option.{Option, none, some}
 use mathlib.Core.List.{List, _∷_, _++_}
 use Prim.Native.Nat.{ℕ, suc, _+_, _≤_}
 use lib.ListN.{length}
-use Rattle.definition.specs.Tokens.{Token, Line, textOf}
-use Rattle.definition.specs.Texts.{same}
-use Rattle.definition.specs.Sorts.{Sort, sort, sortOf, sortAt, sortRest, isLabel, isTok, firstIs, gotoTarget}
+use Rattle.definition.specs.Tokens.{Token, Line}
+use Rattle.definition.specs.Sorts.{Sort, sort, sortOf}
 use Rattle.definition.specs.Sorts.Sort.{condTo, ifOpen, close, doOpen, whileClose}
-use Rattle.definition.specs.Negate.{openTokens, closeTokens, doTokens, whileTokens}
-use Rattle.definition.specs.Passes.{condName, raise, raised, opened, closer, doLine, whileLine, formIf, formDo}
-use Rattle.definition.proofs.ListLaws.{Each, each-append, each-left, each-right, each-map}
-
-abbrev pub size : List Token → ℕ
-size ts = length (textOf ts)
+use Rattle.definition.specs.Negate.{openTokens, whileTokens}
+use Rattle.definition.specs.Passes.{condName, raise, opened, closer, doLine, whileLine, formIf, formDo}
+use Rattle.definition.proofs.ListLaws.{Each, each-append, each-left, each-right, each-map, each-head, _▸_, each-tail}
+use Rattle.definition.proofs.Merge.{size}
+use Rattle.definition.proofs.TokenSorts.{do-sort, close-sort}
 
 -- the tokens ts of a conditional jump to t: what the head of an if, and the end of a loop, made of them are, and how much they take
 pub record Fit (t : List ℕ) (ts : List Token) : Type 0 where
@@ -43,38 +41,25 @@ fit-free x s e n = subst (λ (s : Sort). FitAs (x .toks) (condName s)) (sym e) (
 -- a conditional jump among the lines
 pub fit-at : (pre : List Line) (x : Line) (post : List Line) (t : List ℕ) → sort x ≡ condTo t → Fits (pre ++ x ∷ post) → Fit t (x .toks)
 unfolding condName
-fit-at pre x post t e h = subst (λ (s : Sort). FitAs (x .toks) (condName s)) e (each-right FitLine pre (x ∷ post) h .0)
+fit-at pre x post t e h = subst (λ (s : Sort). FitAs (x .toks) (condName s)) e (each-head (each-right pre (x ∷ post) h))
 
 -- the back edge of a loop
 pub fit-back : (pre : List Line) (l : Line) (mid : List Line) (b : Line) (post : List Line) (t : List ℕ) → sort b ≡ condTo t
     → Fits (pre ++ l ∷ (mid ++ b ∷ post)) → Fit t (b .toks)
-fit-back pre l mid b post t e h = fit-at mid b post t e (each-right FitLine pre (l ∷ (mid ++ b ∷ post)) h .1)
-
-pub close-sort : sortOf closeTokens ≡ close
-unfolding sortOf sortAt sortRest isLabel isTok firstIs gotoTarget same closeTokens
-close-sort = refl
-
-pub do-sort : sortOf doTokens ≡ doOpen
-unfolding sortOf sortAt sortRest isLabel isTok firstIs gotoTarget same doTokens
-do-sort = refl
+fit-back pre l mid b post t e h = fit-at mid b post t e (each-tail (each-right pre (l ∷ (mid ++ b ∷ post)) h))
 
 module _ (pre : List Line) (l : Line) (mid post : List Line) (t : List ℕ) where
   pub fits-if : Fit t (l .toks) → Fits (pre ++ l ∷ (mid ++ post)) → Fits (formIf pre l mid post)
   unfolding condName
   fits-if f h =
-      let r = each-right FitLine pre (l ∷ (mid ++ post)) h .1 in
-      each-append FitLine pre _ (each-left FitLine pre _ h) (
-        fit-free (opened l) ifOpen (f .open-sort) refl,
-        each-append FitLine (raised mid) _ (each-map FitLine FitLine raise (λ x k. k) mid (each-left FitLine mid post r))
-            (fit-free (closer (l .indent)) close close-sort refl, each-right FitLine mid post r),
-      )
+      let r = each-tail (each-right pre (l ∷ (mid ++ post)) h) in
+      each-append (each-left pre _ h) (fit-free (opened l) ifOpen (f .open-sort) refl
+      ▸ each-append (each-map raise (λ x k. k) (each-left mid post r)) (fit-free (closer (l .indent)) close close-sort refl ▸ each-right mid post r))
 
   pub fits-do : (b : Line) → Fit t (b .toks) → Fits (pre ++ l ∷ (mid ++ b ∷ post)) → Fits (formDo pre l mid b post)
   unfolding condName
   fits-do b f h =
-      let r = each-right FitLine pre (l ∷ (mid ++ b ∷ post)) h .1 in
-      each-append FitLine pre _ (each-left FitLine pre _ h) (
-        fit-free (doLine l) doOpen do-sort refl,
-        each-append FitLine (raised mid) _ (each-map FitLine FitLine raise (λ x k. k) mid (each-left FitLine mid (b ∷ post) r))
-            (fit-free (whileLine (suc (l .indent)) b) whileClose (f .while-sort) refl, each-right FitLine mid (b ∷ post) r .1),
-      )
+      let r = each-tail (each-right pre (l ∷ (mid ++ b ∷ post)) h) in
+      each-append (each-left pre _ h) (fit-free (doLine l) doOpen do-sort refl
+      ▸ each-append (each-map raise (λ x k. k) (each-left mid (b ∷ post) r))
+      (fit-free (whileLine (suc (l .indent)) b) whileClose (f .while-sort) refl ▸ each-tail (each-right mid (b ∷ post) r)))

@@ -1,5 +1,5 @@
 -- The flags theorem: after CMP and TEST each comparison that is printed holds exactly when Intel's condition does, and its opposite exactly
--- when it does not. By the setter and the code, each from the laws of FlagsLaws; once over the width, then at 32 and 64.
+-- when it does not. By the setter and the code, each from the laws of CompareLaws; once over the width, then at 32 and 64.
 use mathlib.Core.Path.{_≡_, refl, sym, ap, ap₂, _∙_}
 use mathlib.Core.Bool.{Bool, true, false, not, _&&_, _||_, Bool·beq, Bool·not-not, and-comm, or-comm}
 use mathlib.Core.Option.{Option, none, some}
@@ -14,7 +14,7 @@ use Rattle.definition.specs.Condition.Code.{e, ne, l, ge, g, le, b, ae, 
 use Rattle.definition.specs.Condition.Setter.{cmp, test, self, result}
 use Rattle.definition.specs.Condition.Sign.{equal, unequal, under, notUnder, over, notOver}
 use Rattle.definition.specs.Intel.{half, signed, wrapped, misfits, Status, afterCmp, afterTest, after, intel, relates, sideValue, reading, holds, opposite, flipped, Says}
-use Rattle.definition.proofs.FlagsLaws.{tests, wrapped-fits, not-less, signed-equal, plain-equal, signed-under, signed-zero}
+use Rattle.definition.proofs.CompareLaws.{tests, wrapped-fits, not-less, signed-equal, plain-equal, signed-under, signed-zero}
 
 -- ---- the opposite
 opposite-not : (o : Sign) (x y : ℕ) → relates (opposite o) x y ≡ not (relates o x y)

@@ -1,7 +1,7 @@
 -- Each indent fits a byte: a label stands at 254 or less and any other line at 255 or less, since no region formed goes too deep.
 use mathlib.Core.Path.{_≡_, refl, sym, ap, subst, _∙_}
 use mathlib.Core.Bool.{Bool, true, false, cond, true≢false}
-use mathlib.Core.List.{List, [], _∷_, _++_}
+use mathlib.Core.List.{List, _∷_, _++_}
 use Prim.Native.Nat.{ℕ, suc, _≤_, _<_}
 use native.Mathlib.Omega.{arith}
 use borrow.Author.Tests.{leb-false}
@@ -14,8 +14,8 @@ use Rattle.definition.specs.Passes.{labelName, deep, raise, raised, open
 use Rattle.definition.specs.Listing.{Listing, structure}
 use Rattle.definition.specs.Listing.Outcome.{listed}
 use Rattle.definition.proofs.Bools.{by-test}
-use Rattle.definition.proofs.ListLaws.{Each, each-append, each-left, each-right, each-map, each-only, any-each}
-use Rattle.definition.proofs.Fits.{close-sort, do-sort}
+use Rattle.definition.proofs.ListLaws.{Each, each-append, each-left, each-right, each-map, each-only, any-each, each-head, _▸_, each-tail, each-to}
+use Rattle.definition.proofs.TokenSorts.{close-sort, do-sort}
 use Rattle.definition.proofs.Steps.{Steps, run, KeptByIf, KeptByDo, if-steps-keep, do-steps-keep}
 use Rattle.definition.proofs.Plain.{FlatAs, Flat, Plain}
 use Rattle.definition.proofs.Drop.{keep}
@@ -39,28 +39,24 @@ low-raise x h =
     (λ e. low-other (raise x) (sort x) refl e (leb-false 255 (x .indent) (by false e)))
 
 low-raised : (mid : List Line) → any deep mid ≡ false → Each Low (raised mid)
-low-raised mid d = each-map (λ x. deep x ≡ false) Low raise low-raise mid (any-each deep mid d)
+low-raised mid d = each-map raise low-raise (any-each deep mid d)
 
 low-if : KeptByIf (Each Low)
 unfolding has labelName
 low-if pre l mid goal rest t i f d h =
-    let r = each-right Low pre (l ∷ (mid ++ goal ∷ rest)) h in
-    each-append Low pre _ (each-left Low pre _ h) (
-      low-other (opened l) ifOpen (f .open-sort) refl (r .0 .any-line),
-      each-append Low (raised mid) _ (low-raised mid d)
-          (low-other (closer (l .indent)) close close-sort refl (r .0 .any-line), each-right Low mid (goal ∷ rest) (r .1)),
-    )
+    let r = each-right pre (l ∷ (mid ++ goal ∷ rest)) h in
+    let w = each-head r .any-line in
+    each-append (each-left pre _ h) (low-other (opened l) ifOpen (f .open-sort) refl w
+    ▸ each-append (low-raised mid d) (low-other (closer (l .indent)) close close-sort refl w ▸ each-right mid (goal ∷ rest) (each-tail r)))
 
 low-do : KeptByDo (Each Low)
 unfolding has labelName
 low-do pre l mid b post t i f d h =
-    let r = each-right Low pre (l ∷ (mid ++ b ∷ post)) h in
-    let w : l .indent ≤ 254 = r .0 .a-label (ap (λ (s : Sort). has (labelName s)) (i .head)) in
-    each-append Low pre _ (each-left Low pre _ h) (
-      low-other (doLine l) doOpen do-sort refl (omega arith),
-      each-append Low (raised mid) _ (low-raised mid d)
-          (low-other (whileLine (suc (l .indent)) b) whileClose (f .while-sort) refl (omega arith), each-right Low mid (b ∷ post) (r .1) .1),
-    )
+    let r = each-right pre (l ∷ (mid ++ b ∷ post)) h in
+    let w : l .indent ≤ 254 = each-head r .a-label (ap (λ (s : Sort). has (labelName s)) (i .head)) in
+    each-append (each-left pre _ h) (low-other (doLine l) doOpen do-sort refl (omega arith)
+    ▸ each-append (low-raised mid d)
+    (low-other (whileLine (suc (l .indent)) b) whileClose (f .while-sort) refl (omega arith) ▸ each-tail (each-right mid (b ∷ post) (each-tail r))))
 
 flat-low-at : (s : Sort) (n : ℕ) → FlatAs s n → n ≤ 1
 flat-low-at (label t) n h = omega arith
@@ -73,8 +69,7 @@ flat-low-at doOpen n h = absurd h
 flat-low-at whileClose n h = absurd h
 
 flat-low : (ls : List Line) → Flat ls → Each Low ls
-flat-low [] h = tt
-flat-low (x ∷ xs) h = let w = flat-low-at (sort x) (x .indent) (h .0) in (record { any-line = omega arith; a-label = λ e. omega arith }, flat-low xs (h .1))
+flat-low ls = each-to (λ x h. let w = flat-low-at (sort x) (x .indent) h in record { any-line = omega arith; a-label = λ e. omega arith })
 
 -- after each step of either pass
 pub indents-steps : (low mid fin : List Line) (n k : ℕ) → Plain low → Steps ifStep low n mid → Steps doStep mid k fin → Each Low fin
@@ -86,4 +81,4 @@ pub indents : (low : List Line) (L : Listing) → Plain low → structure low �
 unfolding dropUnusedLabels
 indents low L p e =
     let r = run low L (p .fits) e in
-    subst (Each Low) (sym (r .lines-are)) (each-only Low (keep (r .fin)) (r .fin) (indents-steps low (r .mid) (r .fin) (L .ifs) (L .loops) p (r .if-steps) (r .do-steps)))
+    subst (Each Low) (sym (r .lines-are)) (each-only (keep (r .fin)) (indents-steps low (r .mid) (r .fin) (L .ifs) (L .loops) p (r .if-steps) (r .do-steps)))

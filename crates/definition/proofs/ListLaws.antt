@@ -1,41 +1,62 @@
--- Laws of the lists' words, `any`, `only`, `count`, `total`, at `++`, `map` and `only`, each by one induction; and `Each`, a property of every element.
+-- `Each`, a property of every element; and laws of the lists' words, `any`, `only`, `count`, `total`, at `++`, `map` and `only`, each by one induction.
 use mathlib.Core.Path.{_≡_, refl, ap}
-use mathlib.Core.Bool.{Bool, true, false, cond, _||_, true≢false, false≢true}
+use mathlib.Core.Bool.{Bool, true, false, cond, false≢true}
 use mathlib.Core.List.{List, [], _∷_, _++_, map}
 use Prim.Native.Nat.{ℕ, suc, _+_, _≤_, _<_}
 use native.Mathlib.Omega.{arith}
 use lib.ListN.{length}
-use Rattle.definition.specs.Lists.{any, only, count, total}
-use Rattle.definition.proofs.Bools.{or-left-false, or-right-false, by-cond}
+use Rattle.definition.specs.Lists.{all, any, only, count, total}
+use Rattle.definition.proofs.Bools.{by-cond, both-false, both-true, or-cases, or-right, or-left, by-test}
 
 -- ---- every element
-abbrev pub Each {ℓ κ} : {A : Type ℓ} → (A → Type κ) → List A → Type κ
-Each P [] = Unit {κ}
-Each P (x ∷ xs) = P x × Each P xs
+infixr 60 _▸_
+pub data Each {A : Type 0} (P : A → Type 0) : List A → Type 0 where
+  end : Each P []
+  _▸_ : {x : A} {xs : List A} → P x → Each P xs → Each P (x ∷ xs)
 
-module _ {ℓ κ} {A : Type ℓ} (P : A → Type κ) where
-  pub each-append : (xs ys : List A) → Each P xs → Each P ys → Each P (xs ++ ys)
-  each-append [] ys h k = k
-  each-append (x ∷ xs) ys h k = (h .0, each-append xs ys (h .1) k)
+module _ {A : Type 0} {P : A → Type 0} where
+  pub each-head : {x : A} {xs : List A} → Each P (x ∷ xs) → P x
+  each-head (p ▸ h) = p
+
+  pub each-tail : {x : A} {xs : List A} → Each P (x ∷ xs) → Each P xs
+  each-tail (p ▸ h) = h
+
+  pub each-append : {xs ys : List A} → Each P xs → Each P ys → Each P (xs ++ ys)
+  each-append end k = k
+  each-append (p ▸ h) k = p ▸ each-append h k
 
   pub each-left : (xs ys : List A) → Each P (xs ++ ys) → Each P xs
-  each-left [] ys h = tt
-  each-left (x ∷ xs) ys h = (h .0, each-left xs ys (h .1))
+  each-left [] ys h = end
+  each-left (x ∷ xs) ys (p ▸ h) = p ▸ each-left xs ys h
 
   pub each-right : (xs ys : List A) → Each P (xs ++ ys) → Each P ys
   each-right [] ys h = h
-  each-right (x ∷ xs) ys h = each-right xs ys (h .1)
+  each-right (x ∷ xs) ys (p ▸ h) = each-right xs ys h
 
-  pub each-map : (Q : A → Type κ) (f : A → A) → ((x : A) → P x → Q (f x)) → (xs : List A) → Each P xs → Each Q (map f xs)
-  each-map Q f h [] k = tt
-  each-map Q f h (x ∷ xs) k = (h x (k .0), each-map Q f h xs (k .1))
+  pub each-to : {Q : A → Type 0} {xs : List A} → ((x : A) → P x → Q x) → Each P xs → Each Q xs
+  each-to f end = end
+  each-to f (_▸_ {x = x} p h) = f x p ▸ each-to f h
 
-  pub each-only : (p : A → Bool) (xs : List A) → Each P xs → Each P (only p xs)
+  pub each-map : {Q : A → Type 0} {xs : List A} (g : A → A) → ((x : A) → P x → Q (g x)) → Each P xs → Each Q (map g xs)
+  each-map g f end = end
+  each-map g f (_▸_ {x = x} p h) = f x p ▸ each-map g f h
+
+  pub each-only : (p : A → Bool) {xs : List A} → Each P xs → Each P (only p xs)
   unfolding only
-  each-only p [] h = tt
-  each-only p (x ∷ xs) h =
-      let r = each-only p xs (h .1) in
-      by-cond (Each P) (p x) (x ∷ only p xs) (only p xs) (λ e. (h .0, r)) (λ e. r)
+  each-only p end = end
+  each-only p (_▸_ {x = x} q h) = let r = each-only p h in by-cond (Each P) (p x) (λ e. q ▸ r) (λ e. r)
+
+-- a test that holds of every element, or of none
+module _ {A : Type 0} (p : A → Bool) where
+  pub all-each : (xs : List A) → all p xs ≡ true → Each (λ x. p x ≡ true) xs
+  unfolding all
+  all-each [] e = end
+  all-each (x ∷ xs) e = let b = both-true (p x) (all p xs) e in b .0 ▸ all-each xs (b .1)
+
+  pub any-each : (xs : List A) → any p xs ≡ false → Each (λ x. p x ≡ false) xs
+  unfolding any
+  any-each [] e = end
+  any-each (x ∷ xs) e = let b = both-false (p x) (any p xs) e in b .0 ▸ any-each xs (b .1)
 
 -- ---- sums
 abbrev pub bit : Bool → ℕ
@@ -62,7 +83,7 @@ module _ {ℓ} {A : Type ℓ} (f : A → ℕ) where
   total-only p [] = omega arith
   total-only p (x ∷ xs) =
       let r = total-only p xs in
-      by-cond (λ z. total f z ≤ total f (x ∷ xs)) (p x) (x ∷ only p xs) (only p xs) (λ e. omega arith) (λ e. omega arith)
+      by-cond (λ z. total f z ≤ total f (x ∷ xs)) (p x) (λ e. omega arith) (λ e. omega arith)
 
 pub total-length {ℓ} : {A : Type ℓ} (xs : List A) → total (λ x. 1) xs ≡ length xs
 unfolding total
@@ -75,7 +96,7 @@ module _ {ℓ} {A : Type ℓ} (p : A → Bool) where
   unfolding count total
   count-total [] = refl
   count-total (x ∷ xs) =
-      by-cond (λ n. n ≡ bit (p x) + total (λ x. bit (p x)) xs) (p x) (suc (count p xs)) (count p xs)
+      by-cond (λ n. n ≡ bit (p x) + total (λ x. bit (p x)) xs) (p x)
       (λ e. omega (arith, count-total xs, ap bit e)) (λ e. omega (arith, count-total xs, ap bit e))
 
   pub count-cons : (x : A) (xs : List A) → count p (x ∷ xs) ≡ bit (p x) + count p xs
@@ -94,7 +115,7 @@ module _ {ℓ} {A : Type ℓ} (p : A → Bool) where
   count-length [] = omega arith
   count-length (x ∷ xs) =
       let r = count-length xs in
-      by-cond (λ n. n ≤ suc (length xs)) (p x) (suc (count p xs)) (count p xs) (λ e. omega arith) (λ e. omega arith)
+      by-cond (λ n. n ≤ suc (length xs)) (p x) (λ e. omega arith) (λ e. omega arith)
 
   -- what is left out does not count
   pub count-only : (q : A → Bool) → ((x : A) → q x ≡ false → p x ≡ false) → (xs : List A) → count p (only q xs) ≡ count p xs
@@ -102,7 +123,7 @@ module _ {ℓ} {A : Type ℓ} (p : A → Bool) where
   count-only q h [] = refl
   count-only q h (x ∷ xs) =
       let r = count-only q h xs in
-      by-cond (λ z. count p z ≡ count p (x ∷ xs)) (q x) (x ∷ only q xs) (only q xs)
+      by-cond (λ z. count p z ≡ count p (x ∷ xs)) (q x)
       (λ e. omega (arith, count-cons x xs, count-cons x (only q xs))) (λ e. omega (arith, count-cons x xs, ap bit (h x e)))
 
   pub count-only-none : (q : A → Bool) → ((x : A) → q x ≡ true → p x ≡ false) → (xs : List A) → count p (only q xs) ≡ 0
@@ -110,41 +131,33 @@ module _ {ℓ} {A : Type ℓ} (p : A → Bool) where
   count-only-none q h [] = refl
   count-only-none q h (x ∷ xs) =
       let r = count-only-none q h xs in
-      by-cond (λ z. count p z ≡ 0) (q x) (x ∷ only q xs) (only q xs) (λ e. omega (arith, count-cons x (only q xs), ap bit (h x e))) (λ e. r)
+      by-cond (λ z. count p z ≡ 0) (q x) (λ e. omega (arith, count-cons x (only q xs), ap bit (h x e))) (λ e. r)
 
   pub any-count : (xs : List A) → any p xs ≡ true → 0 < count p xs
-  unfolding any count
+  unfolding any
   any-count [] e = absurd (false≢true e)
-  any-count (x ∷ xs) e = go (p x) e (any-count xs)
-    where
-      go : (b : Bool) → (b || any p xs) ≡ true → (any p xs ≡ true → 0 < count p xs) → 0 < cond b (suc (count p xs)) (count p xs)
-      go true e f = omega arith
-      go false e f = f e
+  any-count (x ∷ xs) e =
+      let i = any-count xs in
+      or-cases (p x) (any p xs) (λ h. omega (arith, count-cons x xs, ap bit h)) (λ h. omega (arith, count-cons x xs, i h)) e
 
   pub count-any : (xs : List A) → 0 < count p xs → any p xs ≡ true
   unfolding any count
   count-any [] h = absurd (omega arith)
-  count-any (x ∷ xs) h = go (p x) h (count-any xs)
-    where
-      go : (b : Bool) → 0 < cond b (suc (count p xs)) (count p xs) → (0 < count p xs → any p xs ≡ true) → (b || any p xs) ≡ true
-      go true h f = refl
-      go false h f = f h
-
-  pub any-each : (xs : List A) → any p xs ≡ false → Each (λ x. p x ≡ false) xs
-  unfolding any
-  any-each [] e = tt
-  any-each (x ∷ xs) e = (or-left-false (p x) (any p xs) e, any-each xs (or-right-false (p x) (any p xs) e))
+  count-any (x ∷ xs) h =
+      let i = count-any xs in
+      by-test (p x) (or-left (p x) (any p xs)) (λ e. or-right (p x) (any p xs) (i (omega (arith, count-cons x xs, ap bit e))))
 
   pub any-none : (xs : List A) → any p xs ≡ false → count p xs ≡ 0
   unfolding any count
   any-none [] e = refl
-  any-none (x ∷ xs) e = go (p x) e (any-none xs)
-    where
-      go : (b : Bool) → (b || any p xs) ≡ false → (any p xs ≡ false → count p xs ≡ 0) → cond b (suc (count p xs)) (count p xs) ≡ 0
-      go true e f = absurd (true≢false e)
-      go false e f = f e
+  any-none (x ∷ xs) e = let b = both-false (p x) (any p xs) e in omega (arith, count-cons x xs, ap bit (b .0), any-none xs (b .1))
 
 -- ---- the elements of which a test holds
+pub only-each : {A : Type 0} (p : A → Bool) {xs : List A} → Each (λ x. p x ≡ true) xs → only p xs ≡ xs
+unfolding only
+only-each p end = refl
+only-each p (_▸_ {x = x} q h) = rw (q, only-each p h)
+
 module _ {ℓ} {A : Type ℓ} (p : A → Bool) where
   pub only-append : (xs ys : List A) → only p (xs ++ ys) ≡ only p xs ++ only p ys
   unfolding only

@@ -1,12 +1,12 @@
 -- Where the gotos of a lowered function aim, under the premises of demand 3: each live conditional branch has a destination, and no supplied name spells
 -- one of the function's own labels. Every edge and target that is printed is among the jumps, so a goto to a block's label finds that label, once.
 use mathlib.Core.Path.{_≡_, refl, sym, ap, subst, _∙_}
-use mathlib.Core.Bool.{Bool, true, false, not, cond, _||_, true≢false, false≢true, or-true}
+use mathlib.Core.Bool.{Bool, true, false, not, cond, _||_, true≢false, false≢true}
 use mathlib.Core.Option.{Option, none, some, Option·some-injective}
 use mathlib.Core.List.{List, [], _∷_, _++_}
-use Prim.Native.Nat.{ℕ}
-use lib.Dec.{eqb, ltb}
-use borrow.Author.Tests.{ltb-true, eqb-true, eq-eqb, not-true}
+use Prim.Native.Nat.{ℕ, _<_}
+use lib.Dec.{eqb}
+use borrow.Author.Tests.{eqb-true, eq-eqb, not-true}
 use Rattle.definition.specs.Texts.{txt, same, begins}
 use Rattle.definition.specs.Lists.{all, any, count, among, distinct, gather, orElse, given, has}
 use Rattle.definition.specs.Ssa.{Kind, Stmt, Block, Function}
@@ -19,11 +19,13 @@ use Rattle.definition.specs.Lower.{Here}
 use Rattle.definition.specs.Blocks.{lower}
 use Rattle.definition.specs.Sorts.{sort}
 use Rattle.definition.specs.Passes.{aimName, is, aims, aimed, named}
-use Rattle.definition.proofs.LoweredLists.{Each, end, _▸_, none-some, both, all-each, same-true, same-refl}
-use Rattle.definition.proofs.LoweredTokens.{label-sort, if-sort}
-use Rattle.definition.proofs.LoweredLines.{conditional, jump, simple, Goes}
+use Rattle.definition.proofs.Bools.{none-some, both-true, or-cases, or-right, or-left}
+use Rattle.definition.proofs.TextLaws.{same-eq, same-refl}
+use Rattle.definition.proofs.ListLaws.{Each, end, _▸_, all-each}
+use Rattle.definition.proofs.TokenSorts.{label-line, if-sort}
+use Rattle.definition.proofs.LoweredLines.{conditional, jump, simple, GoesTo}
 use Rattle.definition.proofs.LoweredNames.{supplied, by-global, by-target, by-prefix}
-use Rattle.definition.proofs.LoweredShapes.{Shaped, labelled, stated, Leads, hereAt, lower-shaped}
+use Rattle.definition.proofs.LoweredShapes.{LineShape, labelled, stated, Leads, hereAt, lower-shaped}
 use Rattle.definition.proofs.LoweredLabels.{label-injective, label-stands}
 
 -- ---- the premises
@@ -50,29 +52,23 @@ unspelled F = all (λ n. all (λ a. not (same (n .text) (label a))) (order F)) (
 among-left : (a : ℕ) (xs ys : List ℕ) → among a xs ≡ true → among a (xs ++ ys) ≡ true
 unfolding among any
 among-left a [] ys e = absurd (false≢true e)
-among-left a (x ∷ xs) ys e = go (eqb a x) e (among-left a xs ys)
-  where
-    go : (b : Bool) → (b || among a xs) ≡ true → (among a xs ≡ true → among a (xs ++ ys) ≡ true) → (b || among a (xs ++ ys)) ≡ true
-    go true z i = refl
-    go false z i = i z
+among-left a (x ∷ xs) ys e =
+    let i = among-left a xs ys in
+    or-cases (eqb a x) (among a xs) (or-left (eqb a x) (among a (xs ++ ys))) (λ z. or-right (eqb a x) (among a (xs ++ ys)) (i z)) e
 
 among-right : (a : ℕ) (xs ys : List ℕ) → among a ys ≡ true → among a (xs ++ ys) ≡ true
 unfolding among any
 among-right a [] ys e = e
-among-right a (x ∷ xs) ys e = ap (λ (b : Bool). eqb a x || b) (among-right a xs ys e) ∙ or-true (eqb a x)
+among-right a (x ∷ xs) ys e = or-right (eqb a x) (among a (xs ++ ys)) (among-right a xs ys e)
 
 among-one : (a : ℕ) → among a (a ∷ []) ≡ true
 unfolding among any
-among-one a = ap (λ (b : Bool). b || false) (eq-eqb a a refl)
+among-one a = or-left (eqb a a) false (eq-eqb a a refl)
 
 among-each : {Q : ℕ → Type 0} {xs : List ℕ} → Each Q xs → (a : ℕ) → among a xs ≡ true → Q a
 unfolding among any
 among-each end a e = absurd (false≢true e)
-among-each {Q} (_▸_ {x = x} {xs = xs} q h) a e = go (eqb a x) refl e (among-each h a)
-  where
-    go : (b : Bool) → eqb a x ≡ b → (b || among a xs) ≡ true → (among a xs ≡ true → Q a) → Q a
-    go true eb z i = subst Q (sym (eqb-true a x eb)) q
-    go false eb z i = i z
+among-each {Q} (_▸_ {x = x} {xs = xs} q h) a e = or-cases (eqb a x) (among a xs) (λ b. subst Q (sym (eqb-true a x b)) q) (among-each h a) e
 
 -- the edge that an option says
 edge-in : (a : ℕ) (o : Option ℕ) → o ≡ some a → among a (optionList o) ≡ true
@@ -100,7 +96,7 @@ module _ (J : List ℕ) where
   In a = among a J ≡ true
 
   module _ (H : Here) (taken : (a : ℕ) → H .block .taken ≡ some a → In a) where
-    goes-in : (k : Kind) → ((a : ℕ) → among a (targetOf k) ≡ true → In a) → hasDestination (H .block) k ≡ true → Goes In H k
+    goes-in : (k : Kind) → ((a : ℕ) → among a (targetOf k) ≡ true → In a) → hasDestination (H .block) k ≡ true → GoesTo In H k
     unfolding hasDestination targetOf
     goes-in (Assign v x) t h = tt
     goes-in (Store n a x) t h = tt
@@ -113,11 +109,11 @@ module _ (J : List ℕ) where
     goes-in (Other n us ds) t h = tt
 
     stmts-in : (ss : List Stmt) → ((a : ℕ) → among a (gather (λ s. targetOf (s .kind)) ss) ≡ true → In a)
-        → all (λ s. s .dead || hasDestination (H .block) (s .kind)) ss ≡ true → Each (λ s. s .dead ≡ false → Goes In H (s .kind)) ss
+        → all (λ s. s .dead || hasDestination (H .block) (s .kind)) ss ≡ true → Each (λ s. s .dead ≡ false → GoesTo In H (s .kind)) ss
     unfolding gather all
     stmts-in [] t h = end
     stmts-in (s ∷ ss) t h =
-        let b = both (s .dead || hasDestination (H .block) (s .kind)) (all (λ s. s .dead || hasDestination (H .block) (s .kind)) ss) h in
+        let b = both-true (s .dead || hasDestination (H .block) (s .kind)) (all (λ s. s .dead || hasDestination (H .block) (s .kind)) ss) h in
         (λ (d : s .dead ≡ false). goes-in (s .kind) (λ a e. t a (among-left a (targetOf (s .kind)) (gather (λ s. targetOf (s .kind)) ss) e)) (rw d at (b .0)))
         ▸ stmts-in ss (λ a e. t a (among-right a (targetOf (s .kind)) (gather (λ s. targetOf (s .kind)) ss) e)) (b .1)
 
@@ -126,7 +122,7 @@ module _ (J : List ℕ) where
   unfolding jumpsFrom all
   leads-in [] j h = tt
   leads-in (b ∷ bs) j h =
-      let q = both (all (λ s. s .dead || hasDestination b (s .kind)) (b .stmts)) (all (λ b. all (λ s. s .dead || hasDestination b (s .kind)) (b .stmts)) bs) h in
+      let q = both-true (all (λ s. s .dead || hasDestination b (s .kind)) (b .stmts)) (all (λ b. all (λ s. s .dead || hasDestination b (s .kind)) (b .stmts)) bs) h in
       let ts = optionList (b .taken) in
       let fs = unlessNext (nextOf bs) (b .fall) in
       let gs = gather (λ s. targetOf (s .kind)) (b .stmts) in
@@ -149,7 +145,7 @@ pub data Aim (F : Function) : List ℕ → Type 0 where
   away : (s : List ℕ) → begins (txt "loc_") s ≡ false → Aim F s
   called : (a : ℕ) (s : List ℕ) → nameFor (F .names) a ≡ some s → Aim F s
 
-pub aims-of : (F : Function) (t : List Known) → destined F ≡ true → Each (Shaped (Aim F)) (lower F t)
+pub aims-of : (F : Function) (t : List Known) → destined F ≡ true → Each (LineShape (Aim F)) (lower F t)
 unfolding destined outward begins
 aims-of F t d =
     lower-shaped F t
@@ -160,20 +156,20 @@ aims-of F t d =
 
 -- what every aim has, a name that some line aims at has
 module _ {P : List ℕ → Type 0} where
-  aim-has : {x : Line} → Shaped P x → (n : List ℕ) → aimName (sort x) ≡ some n → P n
+  aim-has : {x : Line} → LineShape P x → (n : List ℕ) → aimName (sort x) ≡ some n → P n
   unfolding line aimName
-  aim-has (labelled a) n e = absurd (none-some (sym (ap aimName (label-sort (label a))) ∙ e))
+  aim-has (labelled a) n e = none-some (sym (ap aimName (label-line (label a))) ∙ e)
   aim-has (stated (conditional a C t c p)) n e = subst P (Option·some-injective t n (sym (ap aimName (if-sort C t c)) ∙ e)) p
   aim-has (stated (jump a ts t k p)) n e = subst P (Option·some-injective t n (sym (ap aimName k) ∙ e)) p
-  aim-has (stated (simple a ts k)) n e = absurd (none-some (sym (ap aimName k) ∙ e))
+  aim-has (stated (simple a ts k)) n e = none-some (sym (ap aimName k) ∙ e)
 
-  aimed-has : {ls : List Line} → Each (Shaped P) ls → (n : List ℕ) → aimed n ls ≡ true → P n
+  aimed-has : {ls : List Line} → Each (LineShape P) ls → (n : List ℕ) → aimed n ls ≡ true → P n
   unfolding aimed any aims is
   aimed-has end n e = absurd (false≢true e)
   aimed-has (_▸_ {x = x} {xs = xs} h hs) n e = go (aimName (sort x)) refl e (aimed-has hs n)
     where
       rest : (m : List ℕ) (b : Bool) → aimName (sort x) ≡ some m → same m n ≡ b → (b || aimed n xs) ≡ true → (aimed n xs ≡ true → P n) → P n
-      rest m true q s z i = subst P (same-true m n s) (aim-has h m q)
+      rest m true q s z i = subst P (same-eq m n s) (aim-has h m q)
       rest m false q s z i = i z
 
       go : (o : Option (List ℕ)) → aimName (sort x) ≡ o → (is n o || aimed n xs) ≡ true → (aimed n xs ≡ true → P n) → P n
@@ -181,11 +177,8 @@ module _ {P : List ℕ → Type 0} where
       go (some m) q z i = rest m (same m n) q refl z i
 
 -- ---- demand 3: a goto to the label of a block's start finds it
-module _ (F : Function) (t : List Known) (differ : distinct (order F) ≡ true) (below : all (λ a. ltb a whole) (order F) ≡ true)
+module _ (F : Function) (t : List Known) (differ : distinct (order F) ≡ true) (below : Each (λ a. a < whole) (order F))
     (destination : destined F ≡ true) (unlike : unspelled F ≡ true) where
-  start-below : (a : ℕ) → among a (order F) ≡ true → ltb a whole ≡ true
-  start-below a = among-each (all-each (λ a. ltb a whole) (order F) below) a
-
   -- a supplied name is no start's label
   unspelled-name : (s : List ℕ) (a b : ℕ) → nameFor (F .names) b ≡ some s → among a (order F) ≡ true → s ≡ label a → ⊥
   unfolding unspelled
@@ -196,7 +189,7 @@ module _ (F : Function) (t : List Known) (differ : distinct (order F) ≡ true) 
   aim-jumps : {s : List ℕ} → Aim F s → (a : ℕ) → among a (order F) ≡ true → s ≡ label a → among a (jumpsFrom (F .blocks)) ≡ true
   unfolding label begins
   aim-jumps (own b o j) a h e =
-      subst (λ (x : ℕ). among x (jumpsFrom (F .blocks)) ≡ true) (label-injective b a (ltb-true b whole (start-below b o)) (ltb-true a whole (start-below a h)) e) j
+      subst (λ (x : ℕ). among x (jumpsFrom (F .blocks)) ≡ true) (label-injective b a (among-each below b o) (among-each below a h) e) j
   aim-jumps (away s n) a h e = absurd (true≢false (ap (begins (txt "loc_")) (sym e) ∙ n))
   aim-jumps (called b s q) a h e = absurd (unspelled-name s a b q h e)
 

@@ -1,6 +1,6 @@
 -- Label lines counted by name. The digits of a number below 2^64 are read back, so labels of different starts differ, and no name stands twice.
 use mathlib.Core.Path.{_≡_, refl, sym, ap, subst, _∙_}
-use mathlib.Core.Bool.{Bool, true, false, not, cond, _||_, true≢false}
+use mathlib.Core.Bool.{Bool, true, false, not, cond, true≢false}
 use mathlib.Core.Option.{Option, none, some}
 use mathlib.Core.List.{List, [], _∷_, _++_, map}
 use Prim.Native.Nat.{ℕ, zero, suc, _+_, _*_, _-_, _/_, _%_, _≤_, _<_}
@@ -9,7 +9,7 @@ use lib.Dec.{eqb, ltb, leb}
 use lib.ListN.{drop}
 use borrow.Author.Tests.{ltb-true, ltb-false, eqb-true, eqb-false, le-leb, lt-leb, not-true}
 use Rattle.definition.specs.Texts.{same}
-use Rattle.definition.specs.Lists.{all, any, only, count, among, distinct, gather}
+use Rattle.definition.specs.Lists.{any, only, count, among, distinct, gather}
 use Rattle.definition.specs.Ssa.{Function}
 use Rattle.definition.specs.Offsets.{Known, whole}
 use Rattle.definition.specs.Numbers.{digit, digits, HEX, label}
@@ -18,7 +18,9 @@ use Rattle.definition.specs.Tokens.{Line}
 use Rattle.definition.specs.Blocks.{lower}
 use Rattle.definition.specs.Sorts.{sort}
 use Rattle.definition.specs.Passes.{labelName, is, named}
-use Rattle.definition.proofs.LoweredLists.{Each, end, _▸_, by-cond, both, neither, all-each, same-true, same-refl}
+use Rattle.definition.proofs.Bools.{by-cond, both-true, both-false, or-cases}
+use Rattle.definition.proofs.TextLaws.{same-eq, same-refl}
+use Rattle.definition.proofs.ListLaws.{Each, end, _▸_}
 use Rattle.definition.proofs.LoweredShapes.{labelOf, labelsOf, lower-labels}
 
 -- ---- digits read back
@@ -85,51 +87,49 @@ module _ (p : ℕ → Bool) where
   one-more C n x xs y z = go (p x) refl
     where
       at : p x ≡ true → (b : Bool) → same (label x) n ≡ b → C (cond b (suc (count (λ u. same u n) (labels xs))) (count (λ u. same u n) (labels xs)))
-      at q true e = y q (same-true (label x) n e)
+      at q true e = y q (same-eq (label x) n e)
       at q false e = z (λ q′ l. true≢false (sym (subst (λ (s : List ℕ). same (label x) s ≡ true) l (same-refl (label x))) ∙ e))
 
       go : (b : Bool) → p x ≡ b → C (count (λ u. same u n) (map label (cond b (x ∷ only p xs) (only p xs))))
       go true q = at q (same (label x) n) refl
       go false q = z (λ q′ l. true≢false (sym q′ ∙ q))
 
-  absent : (x : ℕ) {xs : List ℕ} → x < whole → Each (λ a. ltb a whole ≡ true) xs → among x xs ≡ false → count (λ u. same u (label x)) (labels xs) ≡ 0
+  absent : (x : ℕ) {xs : List ℕ} → x < whole → Each (λ a. a < whole) xs → among x xs ≡ false → count (λ u. same u (label x)) (labels xs) ≡ 0
   unfolding among any count only
   absent x b end e = refl
   absent x b (_▸_ {x = y} {xs = ys} k ks) e =
-      let n = neither (eqb x y) (among x ys) e in
+      let n = both-false (eqb x y) (among x ys) e in
       one-more (λ k. k ≡ 0) (label x) y ys
-      (λ q l. absurd (eqb-false x y (n .0) (sym (label-injective y x (ltb-true y whole k) b l))))
+      (λ q l. absurd (eqb-false x y (n .0) (sym (label-injective y x k b l))))
       (λ z. absent x b ks (n .1))
 
-  at-most-once : {xs : List ℕ} → Each (λ a. ltb a whole ≡ true) xs → distinct xs ≡ true → (n : List ℕ) → count (λ u. same u n) (labels xs) ≤ 1
+  at-most-once : {xs : List ℕ} → Each (λ a. a < whole) xs → distinct xs ≡ true → (n : List ℕ) → count (λ u. same u n) (labels xs) ≤ 1
   unfolding distinct count only
   at-most-once end d n = omega arith
   at-most-once (_▸_ {x = x} {xs = xs} k ks) d n =
-      let h = both (not (among x xs)) (distinct xs) d in
+      let h = both-true (not (among x xs)) (distinct xs) d in
       one-more (λ c. c ≤ 1) n x xs
       (λ q l. let z : count (λ u. same u n) (labels xs) ≡ 0 =
-      subst (λ (s : List ℕ). count (λ u. same u s) (labels xs) ≡ 0) l (absent x (ltb-true x whole k) ks (not-true (among x xs) (h .0))) in omega arith)
+      subst (λ (s : List ℕ). count (λ u. same u s) (labels xs) ≡ 0) l (absent x k ks (not-true (among x xs) (h .0))) in omega arith)
       (λ z. at-most-once ks (h .1) n)
 
   at-least-once : (a : ℕ) (xs : List ℕ) → among a xs ≡ true → p a ≡ true → 1 ≤ count (λ u. same u (label a)) (labels xs)
   unfolding among any
   at-least-once a [] e q = absurd (true≢false (sym e))
-  at-least-once a (x ∷ xs) e q = one-more (λ c. 1 ≤ c) (label a) x xs (λ r l. omega arith) (λ z. go (eqb a x) refl e z (λ r. at-least-once a xs r q))
-    where
-      go : (b : Bool) → eqb a x ≡ b → (b || among a xs) ≡ true → (p x ≡ true → label x ≡ label a → ⊥)
-          → (among a xs ≡ true → 1 ≤ count (λ u. same u (label a)) (labels xs)) → 1 ≤ count (λ u. same u (label a)) (labels xs)
-      go true eb r z i = let is : a ≡ x = eqb-true a x eb in absurd (z (subst (λ (y : ℕ). p y ≡ true) is q) (ap label (sym is)))
-      go false eb r z i = i r
+  at-least-once a (x ∷ xs) e q =
+      let i : among a xs ≡ true → 1 ≤ count (λ u. same u (label a)) (labels xs) = λ r. at-least-once a xs r q in
+      one-more (λ c. 1 ≤ c) (label a) x xs (λ r l. omega arith) (λ z.
+      or-cases (eqb a x) (among a xs) (λ b. let is : a ≡ x = eqb-true a x b in absurd (z (subst (λ (y : ℕ). p y ≡ true) is q) (ap label (sym is)))) (λ r. i r) e)
 
 -- ---- the labels of a function whose blocks' starts differ and are below 2^64
-module _ (F : Function) (t : List Known) (differ : distinct (order F) ≡ true) (below : all (λ a. ltb a whole) (order F) ≡ true) where
+module _ (F : Function) (t : List Known) (differ : distinct (order F) ≡ true) (below : Each (λ a. a < whole) (order F)) where
   named-is : (n : List ℕ) → count (named n) (lower F t) ≡ count (λ u. same u n) (map label (only (λ a. among a (jumpsFrom (F .blocks))) (order F)))
   named-is n = count-named n (lower F t) ∙ ap (count (λ u. same u n)) (lower-labels F t)
 
   -- no name stands twice
   pub labels-once : (n : List ℕ) → count (named n) (lower F t) ≤ 1
   labels-once n =
-      omega (arith, named-is n, at-most-once (λ a. among a (jumpsFrom (F .blocks))) (all-each (λ a. ltb a whole) (order F) below) differ n)
+      omega (arith, named-is n, at-most-once (λ a. among a (jumpsFrom (F .blocks))) below differ n)
 
   -- a start that something jumps to has its label
   pub label-stands : (a : ℕ) → among a (order F) ≡ true → among a (jumpsFrom (F .blocks)) ≡ true → count (named (label a)) (lower F t) ≡ 1

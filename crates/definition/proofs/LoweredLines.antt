@@ -23,33 +23,35 @@ use Rattle.definition.specs.Lower.{Lowering, Here, gotoTokens, restores,
 use Rattle.definition.specs.Blocks.{pendAfter, setAfter, lowerStmts, closing}
 use Rattle.definition.specs.Sorts.{isTok, firstSymbol, sortOf}
 use Rattle.definition.specs.Sorts.Sort.{jumpTo, plain}
-use Rattle.definition.proofs.LoweredLists.{Each, end, _▸_, each-append, each-map, by-cond, neither}
-use Rattle.definition.proofs.LoweredTokens.{Calm, ifTokens, register-plain, keyword-plain, symbol-plain, punct-plain, goto-plain, goto-jump}
+use Rattle.definition.proofs.Bools.{by-cond, both-false}
+use Rattle.definition.proofs.ListLaws.{Each, end, _▸_, each-append, each-to}
+use Rattle.definition.proofs.Merge.{NoGoto}
+use Rattle.definition.proofs.TokenSorts.{ifTokens, register-plain, keyword-plain, symbol-plain, punct-plain, goto-plain, goto-jump}
 use Rattle.definition.proofs.LoweredRender.{Rendered, Sound, mute, first-name, expr-rendered, condition-rendered}
 
 -- a line of a statement: in C, what an `if` tests, no token is `goto`
 pub data Stated (P : List ℕ → Type 0) : Line → Type 0 where
-  conditional : (a : Option ℕ) (C : List Token) (t : List ℕ) → Each Calm C → P t → Stated P (line 1 a (ifTokens C t))
+  conditional : (a : Option ℕ) (C : List Token) (t : List ℕ) → NoGoto C → P t → Stated P (line 1 a (ifTokens C (symbol t)))
   jump : (a : Option ℕ) (ts : List Token) (t : List ℕ) → sortOf (merge ts) ≡ jumpTo t → P t → Stated P (line 1 a ts)
   simple : (a : Option ℕ) (ts : List Token) → sortOf (merge ts) ≡ plain → Stated P (line 1 a ts)
 
 -- where a live statement of this kind goes has D
-abbrev pub Goes : (ℕ → Type 0) → Here → Kind → Type 0
-Goes D H (Assign v x) = Unit {0}
-Goes D H (Store n a x) = Unit {0}
-Goes D H (Call t xs r c) = Unit {0}
-Goes D H (Branch (some cc) t us) = D (given 0 (orElse (H .block .taken) t))
-Goes D H (Branch none t us) = (a : ℕ) → orElse t (H .block .taken) ≡ some a → D a
-Goes D H (Flags t a b) = Unit {0}
-Goes D H (Return x) = Unit {0}
-Goes D H (Other t us ds) = Unit {0}
+abbrev pub GoesTo : (ℕ → Type 0) → Here → Kind → Type 0
+GoesTo D H (Assign v x) = Unit {0}
+GoesTo D H (Store n a x) = Unit {0}
+GoesTo D H (Call t xs r c) = Unit {0}
+GoesTo D H (Branch (some cc) t us) = D (given 0 (orElse (H .block .taken) t))
+GoesTo D H (Branch none t us) = (a : ℕ) → orElse t (H .block .taken) ≡ some a → D a
+GoesTo D H (Flags t a b) = Unit {0}
+GoesTo D H (Return x) = Unit {0}
+GoesTo D H (Other t us ds) = Unit {0}
 
-calm : {P : List ℕ → Type 0} {ts : List Token} → Each (Rendered P) ts → Each Calm ts
-calm = each-map (λ t r. r .calm)
+no-goto : {P : List ℕ → Type 0} {ts : List Token} → Each (Rendered P) ts → NoGoto ts
+no-goto = each-to (λ t r. r .no-goto)
 
 -- what a call calls: it holds no goto, and with the arguments behind it the line is plain
 abbrev Callee : List Token → Type 0
-Callee c = Each Calm c × ((ts : List Token) → Each Calm ts → sortOf (merge (c ++ (punct (txt "(") ∷ ts))) ≡ plain)
+Callee c = NoGoto c × ((ts : List Token) → NoGoto ts → sortOf (merge (c ++ (punct (txt "(") ∷ ts))) ≡ plain)
 
 symbol-callee : (n : List ℕ) → Callee (symbol n ∷ [])
 unfolding isTok
@@ -60,29 +62,29 @@ module _ {P : List ℕ → Type 0} (L : Lowering) (sound : Sound P (L .gen)) whe
   unfolding e
   rendered x = expr-rendered (L .gen) sound true x
 
-  commas-calm : (ys : List Expr) → Each Calm (gather (λ y. punct (txt ", ") ∷ e (L .gen) y) ys)
+  commas-nogoto : (ys : List Expr) → NoGoto (gather (λ y. punct (txt ", ") ∷ e (L .gen) y) ys)
   unfolding gather isTok
-  commas-calm [] = end
-  commas-calm (y ∷ ys) = refl ▸ each-append (calm (rendered y)) (commas-calm ys)
+  commas-nogoto [] = end
+  commas-nogoto (y ∷ ys) = refl ▸ each-append (no-goto (rendered y)) (commas-nogoto ys)
 
-  comma-calm : (xs : List Expr) → Each Calm (commaList L xs)
+  comma-nogoto : (xs : List Expr) → NoGoto (commaList L xs)
   unfolding commaList
-  comma-calm [] = end
-  comma-calm (x ∷ xs) = each-append (calm (rendered x)) (commas-calm xs)
+  comma-nogoto [] = end
+  comma-nogoto (x ∷ xs) = each-append (no-goto (rendered x)) (commas-nogoto xs)
 
   assign-lines : (s : Stmt) (v : Value) (x : Expr) → Each (Stated P) (assign L s v x)
   unfolding assign
   assign-lines s v x =
       by-cond (Each (Stated P)) (s .dead || eqb (v .reg) RSP || inPlace (L .places) v || restores L v x) (λ h. end)
-      (λ h. simple _ _ (register-plain _ (calm (mute refl ▸ each-append (rendered x) (mute refl ▸ end)))) ▸ end)
+      (λ h. simple _ _ (register-plain _ (no-goto (mute refl ▸ each-append (rendered x) (mute refl ▸ end)))) ▸ end)
 
   store-lines : (s : Stmt) (n : ℕ) (a x : Expr) (ss : List Stmt) → Each (Stated P) (store L s n a x ss)
   unfolding store slotOr through pointer same
   store-lines s n a x ss =
-      let rest : Each Calm (punct (txt " = ") ∷ (e (L .gen) x ++ (punct (txt ";") ∷ []))) = calm (mute refl ▸ each-append (rendered x) (mute refl ▸ end)) in
+      let rest : NoGoto (punct (txt " = ") ∷ (e (L .gen) x ++ (punct (txt ";") ∷ []))) = no-goto (mute refl ▸ each-append (rendered x) (mute refl ▸ end)) in
       by-cond (Each (Stated P)) (silent L s a x ss) (λ h. end)
       (λ h. simple _ _ (by-cond (λ z. sortOf (merge (z ++ (punct (txt " = ") ∷ (e (L .gen) x ++ (punct (txt ";") ∷ []))))) ≡ plain) (eqb (stackOff (L .gen .offsets) a) 0)
-      (λ h. keyword-plain (txt "*(uint" ++ decimal (n * 8) ++ txt "_t *)") refl refl refl (each-append (calm (mute refl ▸ each-append (rendered a) (mute refl ▸ end))) rest))
+      (λ h. keyword-plain (txt "*(uint" ++ decimal (n * 8) ++ txt "_t *)") refl refl refl (each-append (no-goto (mute refl ▸ each-append (rendered a) (mute refl ▸ end))) rest))
       (λ h. register-plain _ rest)) ▸ end)
 
   -- ---- calls
@@ -91,14 +93,14 @@ module _ {P : List ℕ → Type 0} (L : Lowering) (sound : Sound P (L .gen)) whe
   indirect-callee [] = (end, λ ts k. punct-plain [] k)
   indirect-callee (x ∷ xs) = go (slotName L x)
     where
-      it : Each Calm (e (L .gen) x ++ (punct (txt ")") ∷ []))
-      it = each-append (calm (rendered x)) (refl ▸ end)
+      it : NoGoto (e (L .gen) x ++ (punct (txt ")") ∷ []))
+      it = each-append (no-goto (rendered x)) (refl ▸ end)
 
       go : (o : Option (List ℕ)) → Callee (globalOr (punct (txt "(*") ∷ (e (L .gen) x ++ (punct (txt ")") ∷ []))) o)
       go none = (refl ▸ it, λ ts k. punct-plain (txt "*") (each-append it (refl ▸ k)))
       go (some n) = symbol-callee n
 
-  call-plain : (r : Option Value) (c ts : List Token) → Callee c → Each Calm ts → sortOf (merge (resultTokens L r ++ c ++ (punct (txt "(") ∷ ts))) ≡ plain
+  call-plain : (r : Option Value) (c ts : List Token) → Callee c → NoGoto ts → sortOf (merge (resultTokens L r ++ c ++ (punct (txt "(") ∷ ts))) ≡ plain
   unfolding resultTokens isTok
   call-plain none c ts h k = h .1 ts k
   call-plain (some v) c ts h k =
@@ -109,17 +111,17 @@ module _ {P : List ℕ → Type 0} (L : Lowering) (sound : Sound P (L .gen)) whe
   unfolding call direct isTok
   call-lines pend set s t xs r =
       simple _ _ (call-plain r (cond (isIndirect t) (indirect L xs) (direct L t)) _ (by-cond Callee (isIndirect t) (λ q. indirect-callee xs) (λ q. symbol-callee _))
-      (each-append (comma-calm (callArgs L pend set t xs)) (refl ▸ end))) ▸ end
+      (each-append (comma-nogoto (callArgs L pend set t xs)) (refl ▸ end))) ▸ end
 
   -- ---- returns and asm
-  return-calm : (x : Option Expr) → Each Calm (returnTokens L x)
+  return-nogoto : (x : Option Expr) → NoGoto (returnTokens L x)
   unfolding returnTokens isTok
-  return-calm none = end
-  return-calm (some x) = by-cond (Each Calm) (L .returns) (λ h. refl ▸ calm (rendered x)) (λ h. end)
+  return-nogoto none = end
+  return-nogoto (some x) = by-cond NoGoto (L .returns) (λ h. refl ▸ no-goto (rendered x)) (λ h. end)
 
   return-lines : (s : Stmt) (x : Option Expr) → Each (Stated P) (return L s x)
   unfolding return isTok same
-  return-lines s x = simple _ _ (keyword-plain (txt "return") refl refl refl (each-append (return-calm x) (refl ▸ end))) ▸ end
+  return-lines s x = simple _ _ (keyword-plain (txt "return") refl refl refl (each-append (return-nogoto x) (refl ▸ end))) ▸ end
 
   asm-plain : (ns : List (List ℕ)) (t : List ℕ) → sortOf (merge (asm ns t)) ≡ plain
   unfolding asm isTok same
@@ -135,8 +137,8 @@ module _ {P : List ℕ → Type 0} (L : Lowering) (sound : Sound P (L .gen)) whe
   tail-lines : (set : List ℕ) (s : Stmt) (n : List ℕ) (us : List Expr) → Each (Stated P) (tailCall L set s n us)
   unfolding tailCall isTok same
   tail-lines set s n us =
-      let it : Each Calm (commaList L (take (countSet set (L .args)) us) ++ (punct (txt ")") ∷ []) ++ (punct (txt ";") ∷ [])) =
-      each-append (each-append (comma-calm (take (countSet set (L .args)) us)) (refl ▸ end)) (refl ▸ end) in
+      let it : NoGoto (commaList L (take (countSet set (L .args)) us) ++ (punct (txt ")") ∷ []) ++ (punct (txt ";") ∷ [])) =
+      each-append (each-append (comma-nogoto (take (countSet set (L .args)) us)) (refl ▸ end)) (refl ▸ end) in
       by-cond (Each (Stated P)) (L .returns)
       (λ h. simple _ _ (keyword-plain (txt "return") refl refl refl (refl ▸ refl ▸ refl ▸ it)) ▸ end)
       (λ h. simple _ _ (symbol-plain n [] it) ▸ simple _ _ (keyword-plain (txt "return") refl refl refl (refl ▸ end)) ▸ end)
@@ -186,13 +188,13 @@ module _ {P : List ℕ → Type 0} (L : Lowering) (sound : Sound P (L .gen)) whe
 
       -- ---- statements
       module _ (fall : (a : ℕ) → H .block .fall ≡ some a → isNext (H .next) a ≡ false → D a) where
-        branch-lines : (set : List ℕ) (s : Stmt) (c : Option (List ℕ)) (t : Option ℕ) (us : List Expr) → Goes D H (Branch c t us) → Each (Stated P) (branch L H set s c t us)
+        branch-lines : (set : List ℕ) (s : Stmt) (c : Option (List ℕ)) (t : Option ℕ) (us : List Expr) → GoesTo D H (Branch c t us) → Each (Stated P) (branch L H set s c t us)
         unfolding branch branchIf
         branch-lines set s none t us d = to-lines set s (orElse t (H .block .taken)) us d
         branch-lines set s (some cc) t us d =
-            conditional _ _ _ (calm (condition-rendered (L .gen) sound (H .block .stmts) cc)) (aim _ d) ▸ fall-lines s (H .block .fall) fall
+            conditional _ _ _ (no-goto (condition-rendered (L .gen) sound (H .block .stmts) cc)) (aim _ d) ▸ fall-lines s (H .block .fall) fall
 
-        kind-lines : (pend : List Stmt) (set : List ℕ) (s : Stmt) (ss : List Stmt) (k : Kind) → (s .dead ≡ false → Goes D H k) → Each (Stated P) (lowerKind L H pend set s ss k)
+        kind-lines : (pend : List Stmt) (set : List ℕ) (s : Stmt) (ss : List Stmt) (k : Kind) → (s .dead ≡ false → GoesTo D H k) → Each (Stated P) (lowerKind L H pend set s ss k)
         unfolding lowerKind
         kind-lines pend set s ss (Assign v x) d = assign-lines s v x
         kind-lines pend set s ss (Store n a x) d = by-cond (Each (Stated P)) (s .dead) (λ h. end) (λ h. store-lines s n a x ss)
@@ -202,7 +204,7 @@ module _ {P : List ℕ → Type 0} (L : Lowering) (sound : Sound P (L .gen)) whe
         kind-lines pend set s ss (Return x) d = by-cond (Each (Stated P)) (s .dead) (λ h. end) (λ h. return-lines s x)
         kind-lines pend set s ss (Other t us ds) d = by-cond (Each (Stated P)) (s .dead) (λ h. end) (λ h. other-lines s t ds)
 
-        pub stmts-lines : (pend : List Stmt) (set : List ℕ) {ss : List Stmt} → Each (λ s. s .dead ≡ false → Goes D H (s .kind)) ss → Each (Stated P) (lowerStmts L H pend set ss)
+        pub stmts-lines : (pend : List Stmt) (set : List ℕ) {ss : List Stmt} → Each (λ s. s .dead ≡ false → GoesTo D H (s .kind)) ss → Each (Stated P) (lowerStmts L H pend set ss)
         unfolding lowerStmts
         stmts-lines pend set end = end
         stmts-lines pend set (_▸_ {x = s} {xs = ss} d ds) =
@@ -213,4 +215,4 @@ module _ {P : List ℕ → Type 0} (L : Lowering) (sound : Sound P (L .gen)) whe
       closing-lines none d = end
       closing-lines (some a) d =
           by-cond (Each (Stated P)) (isNext (H .next) a || not (among a (L .starts))) (λ h. end)
-          (λ h. let n = neither (isNext (H .next) a) (not (among a (L .starts))) h in goto-line _ _ (label-aim a (not-false (among a (L .starts)) (n .1)) (d a refl (n .0))) ▸ end)
+          (λ h. let n = both-false (isNext (H .next) a) (not (among a (L .starts))) h in goto-line _ _ (label-aim a (not-false (among a (L .starts)) (n .1)) (d a refl (n .0))) ▸ end)

@@ -1,7 +1,7 @@
 -- The names that a jump or a global can have: a label, an outward address, a supplied name, or a size's prefix before an address.
-use mathlib.Core.Path.{_≡_, refl, subst}
-use mathlib.Core.Bool.{Bool, true, false, cond, _&&_}
-use mathlib.Core.Option.{Option, none, some, Option·some-injective}
+use mathlib.Core.Path.{_≡_, refl}
+use mathlib.Core.Bool.{true, false, _&&_}
+use mathlib.Core.Option.{Option, none, some}
 use mathlib.Core.List.{List, _++_}
 use Prim.Native.Nat.{ℕ}
 use lib.Dec.{eqb, ltb, leb}
@@ -11,30 +11,23 @@ use Rattle.definition.specs.Ssa.{Name}
 use Rattle.definition.specs.Offsets.{half}
 use Rattle.definition.specs.Numbers.{HEX, label, outward}
 use Rattle.definition.specs.Lookup.{nameFor, sizePrefix, nameOr, globalName, outsideName, targetName}
-use Rattle.definition.proofs.LoweredLists.{Each, end, _▸_, by-cond, none-some}
+use Rattle.definition.proofs.Bools.{by-cond, none-some, cond-some}
+use Rattle.definition.proofs.ListLaws.{Each, end, _▸_}
 
 -- what every supplied name has, the name of an address has
 pub supplied : (Q : List ℕ → Type 0) {ns : List Name} → Each (λ n. Q (n .text)) ns → (a : ℕ) (s : List ℕ) → nameFor ns a ≡ some s → Q s
 unfolding nameFor
-supplied Q end a s e = absurd (none-some e)
-supplied Q (_▸_ {x = n} {xs = ns} q h) a s e = go (eqb (n .address) a) e (supplied Q h a s)
-  where
-    go : (b : Bool) → cond b (some (n .text)) (nameFor ns a) ≡ some s → (nameFor ns a ≡ some s → Q s) → Q s
-    go true z i = subst Q (Option·some-injective (n .text) s z) q
-    go false z i = i z
+supplied Q end a s e = none-some e
+supplied Q (_▸_ {x = n} {xs = ns} q h) a s e = cond-some Q (eqb (n .address) a) (λ z. q) (supplied Q h a s) e
 
 -- a global's name
 pub by-global : (Q : List ℕ → Type 0) (ns : List Name) (c n : ℕ) (s : List ℕ) → Q (sizePrefix n ++ HEX c) → ((m : List ℕ) → nameFor ns c ≡ some m → Q m) → globalName ns c n ≡ some s → Q s
 unfolding globalName nameOr
-by-global Q ns c n s p k e = go (leb 4096 c && ltb c half) e
+by-global Q ns c n s p k e = cond-some Q (leb 4096 c && ltb c half) (λ z. of (nameFor ns c) refl) none-some e
   where
     of : (o : Option (List ℕ)) → nameFor ns c ≡ o → Q (nameOr (sizePrefix n ++ HEX c) o)
     of none z = p
     of (some m) z = k m z
-
-    go : (b : Bool) → cond b (some (nameOr (sizePrefix n ++ HEX c) (nameFor ns c))) none ≡ some s → Q s
-    go true z = subst Q (Option·some-injective (nameOr (sizePrefix n ++ HEX c) (nameFor ns c)) s z) (of (nameFor ns c) refl)
-    go false z = absurd (none-some z)
 
 -- the name of a jump's target
 pub by-target : (Q : List ℕ → Type 0) (starts : List ℕ) (ns : List Name) (a : ℕ)

@@ -18,15 +18,15 @@ use Rattle.definition.specs.Lookup.{order, jumpsFrom}
 use Rattle.definition.specs.Tokens.{Line}
 use Rattle.definition.specs.Blocks.{lower}
 use Rattle.definition.specs.Passes.{aimed, named}
-use Rattle.definition.proofs.LoweredLists.{Each}
-use Rattle.definition.proofs.LoweredShapes.{Shaped, labelsOf, lower-labels, shapes}
+use Rattle.definition.proofs.ListLaws.{Each}
+use Rattle.definition.proofs.LoweredShapes.{LineShape, labelsOf, lower-labels, shapes}
 use Rattle.definition.proofs.LoweredLabels.{labels-once}
 use Rattle.definition.proofs.LoweredAims.{destined, unspelled, met}
 use Rattle.definition.proofs.LoweredRead.{endsWithText, names-there, starts-differ, starts-below}
 
 -- of the lowered lines `ls` of F: their shapes; the label lines, in order; no label twice; and, under the premises of demand 3, a label for each goto to a start
 pub record Owed (F : Function) (ls : List Line) : Type 0 where
-  pub shaped : Each (Shaped (λ s. 1 ≤ length s)) ls
+  pub shaped : Each (LineShape (λ s. 1 ≤ length s)) ls
   pub labels : labelsOf ls ≡ map label (only (λ a. among a (jumpsFrom (F .blocks))) (order F))
   pub once : (n : List ℕ) → count (named n) ls ≤ 1
   pub meets : destined F ≡ true → unspelled F ≡ true → (a : ℕ) → among a (order F) ≡ true → aimed (label a) ls ≡ true → count (named (label a)) ls ≡ 1

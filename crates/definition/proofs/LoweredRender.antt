@@ -1,7 +1,7 @@
 -- The tokens of expressions and conditions: none is the keyword `goto`, since keywords are written by fixed texts, and a Symbol is a global's name.
-use mathlib.Core.Path.{_≡_, refl, sym, subst, _∙_}
-use mathlib.Core.Bool.{Bool, true, false, cond, _&&_, _||_, true≢false, false≢true}
-use mathlib.Core.Option.{Option, none, some, Option·some-injective}
+use mathlib.Core.Path.{_≡_, refl, sym, _∙_}
+use mathlib.Core.Bool.{Bool, true, false, _||_, true≢false, false≢true}
+use mathlib.Core.Option.{Option, none, some}
 use mathlib.Core.List.{List, [], _∷_, _++_}
 use Prim.Native.Nat.{ℕ, _*_}
 use lib.Dec.{eqb}
@@ -18,12 +18,13 @@ use Rattle.definition.specs.Render.{Opened, Gen, openedAt, variable, use
 use Rattle.definition.specs.Condition.{Side, Shown, Setting, sideTokens, unsignedTokens, shownTokens, setterOf, lastSetter, comparison, codeOf, conditionOf, condition}
 use Rattle.definition.specs.Condition.Side.{left, right, difference, both, nought}
 use Rattle.definition.specs.Sorts.{isTok, firstSymbol}
-use Rattle.definition.proofs.LoweredLists.{Each, end, _▸_, each-append, by-cond, none-some}
-use Rattle.definition.proofs.LoweredTokens.{Calm}
+use Rattle.definition.proofs.Bools.{by-cond, none-some, both-false, cond-some}
+use Rattle.definition.proofs.ListLaws.{Each, end, _▸_, each-append}
+use Rattle.definition.proofs.Merge.{NotGoto, no-keyword}
 
 -- a token of an expression: it is not `goto`, and if it is a Symbol, its name has P
 pub record Rendered (P : List ℕ → Type 0) (t : Token) : Type 0 where
-  pub calm : Calm t
+  pub no-goto : NotGoto t
   pub name : eqb (t .kind) 4 ≡ true → P (t .text)
 
 -- what P has to hold of: the names of globals, and the Symbols of the values written in place
@@ -34,34 +35,21 @@ pub record Sound (P : List ℕ → Type 0) (G : Gen) : Type 0 where
 module _ {P : List ℕ → Type 0} where
   -- neither keyword nor Symbol; a keyword; a Symbol
   pub mute : {k : ℕ} {w : List ℕ} → (eqb k 3 || eqb k 4) ≡ false → Rendered P (tok k w)
-  unfolding isTok
-  mute {k} {w} e = record { calm = calm-of (eqb k 3) e; name = λ s. absurd (name-of (eqb k 3) (eqb k 4) e s) }
-    where
-      calm-of : (b : Bool) → (b || eqb k 4) ≡ false → (b && same w (txt "goto")) ≡ false
-      calm-of true z = absurd (true≢false z)
-      calm-of false z = refl
-
-      name-of : (b c : Bool) → (b || c) ≡ false → c ≡ true → ⊥
-      name-of true c z s = true≢false z
-      name-of false c z s = true≢false (sym s ∙ z)
+  mute e = let q = both-false _ _ e in record { no-goto = no-keyword _ (q .0); name = λ s. absurd (true≢false (sym s ∙ q .1)) }
 
   pub word : (w : List ℕ) → same w (txt "goto") ≡ false → Rendered P (keyword w)
   unfolding isTok
-  word w e = record { calm = e; name = λ s. absurd (false≢true s) }
+  word w e = record { no-goto = e; name = λ s. absurd (false≢true s) }
 
   pub called : {n : List ℕ} → P n → Rendered P (symbol n)
   unfolding isTok
-  called p = record { calm = refl; name = λ s. p }
+  called p = record { no-goto = refl; name = λ s. p }
 
   -- the first Symbol has P
   pub first-name : {ts : List Token} → Each (Rendered P) ts → (t : List ℕ) → firstSymbol ts ≡ some t → P t
   unfolding firstSymbol
-  first-name end t e = absurd (none-some e)
-  first-name (_▸_ {x = x} {xs = xs} r h) t e = go (eqb (x .kind) 4) refl e (first-name h t)
-    where
-      go : (b : Bool) → eqb (x .kind) 4 ≡ b → cond b (some (x .text)) (firstSymbol xs) ≡ some t → (firstSymbol xs ≡ some t → P t) → P t
-      go true eb z i = subst P (Option·some-injective (x .text) t z) (r .name eb)
-      go false eb z i = i z
+  first-name end t e = none-some e
+  first-name (_▸_ {x = x} {xs = xs} r h) t e = cond-some P (eqb (x .kind) 4) (r .name) (first-name h t) e
 
   -- ---- expressions
   address-or : (s : ℕ) {ts : List Token} → Each (Rendered P) ts → Each (Rendered P) (addressOr s ts)
@@ -98,11 +86,11 @@ module _ {P : List ℕ → Type 0} where
     global-name : (n : ℕ) (x : Expr) (t : List ℕ) → globalOf (G .supplied) n x ≡ some t → P t
     unfolding globalOf
     global-name n (Const c) t e = sound .globals c n t e
-    global-name n (Use v) t e = absurd (none-some e)
-    global-name n (Bin o a b) t e = absurd (none-some e)
-    global-name n (Un o a) t e = absurd (none-some e)
-    global-name n (Load m a) t e = absurd (none-some e)
-    global-name n (Opaque s) t e = absurd (none-some e)
+    global-name n (Use v) t e = none-some e
+    global-name n (Bin o a b) t e = none-some e
+    global-name n (Un o a) t e = none-some e
+    global-name n (Load m a) t e = none-some e
+    global-name n (Opaque s) t e = none-some e
 
     pub expr-rendered : (top : Bool) (x : Expr) → Each (Rendered P) (expr G top x)
     unfolding expr operator

@@ -1,14 +1,14 @@
 -- The shapes of lowered lines. A block writes its label, if something jumps there, the lines of its statements, and a closing goto; so every line
 -- is a label or as LoweredLines says, and the label lines are those of the starts that are jumped to, in the blocks' order.
 use mathlib.Core.Path.{_≡_, refl, sym, ap, ap₂, subst, _∙_}
-use mathlib.Core.Bool.{Bool, true, false, not, cond, false≢true}
+use mathlib.Core.Bool.{Bool, true, false, cond}
 use mathlib.Core.Option.{none, some}
 use mathlib.Core.List.{List, [], _∷_, _++_, map, append-assoc, append-nil}
 use Prim.Native.Nat.{ℕ, _≤_}
 use native.Mathlib.Omega.{arith}
 use lib.ListN.{length}
-use Rattle.definition.specs.Texts.{txt, isEmpty}
-use Rattle.definition.specs.Lists.{all, among, gather, only, orElse}
+use Rattle.definition.specs.Texts.{txt}
+use Rattle.definition.specs.Lists.{among, gather, only, orElse}
 use Rattle.definition.specs.Ssa.{Kind, Stmt, Block, Name, Function}
 use Rattle.definition.specs.Ssa.Kind.{Assign, Store, Call, Branch, Flags, Return, Other}
 use Rattle.definition.specs.Offsets.{Known}
@@ -23,21 +23,22 @@ use Rattle.definition.specs.Lower.{Lowering, Here}
 use Rattle.definition.specs.Blocks.{lowerStmts, lastLeaves, closing, labelLine, lowerBlock, lowerBlocks, lowering, lower}
 use Rattle.definition.specs.Sorts.{Sort, sort}
 use Rattle.definition.specs.Passes.{labelName}
-use Rattle.definition.proofs.LoweredLists.{Each, end, _▸_, each-append, each-map, by-cond, all-each}
-use Rattle.definition.proofs.LoweredTokens.{label-sort, if-sort}
+use Rattle.definition.proofs.Bools.{by-cond}
+use Rattle.definition.proofs.ListLaws.{Each, end, _▸_, each-append, each-to}
+use Rattle.definition.proofs.TokenSorts.{label-line, if-sort}
 use Rattle.definition.proofs.LoweredRender.{Sound, open-all}
+use Rattle.definition.proofs.LoweredLines.{Stated, conditional, jump, simple, GoesTo, stmts-lines, closing-lines}
 use Rattle.definition.proofs.LoweredNames.{supplied, by-global, by-target, by-prefix}
-use Rattle.definition.proofs.LoweredLines.{Stated, conditional, jump, simple, Goes, stmts-lines, closing-lines}
 
 -- a lowered line; P says what is known of the names that jumps aim at
-pub data Shaped (P : List ℕ → Type 0) : Line → Type 0 where
-  labelled : (a : ℕ) → Shaped P (line 0 (some a) (symbol (label a) ∷ punct (txt ":") ∷ []))
-  stated : {x : Line} → Stated P x → Shaped P x
+pub data LineShape (P : List ℕ → Type 0) : Line → Type 0 where
+  labelled : (a : ℕ) → LineShape P (line 0 (some a) (symbol (label a) ∷ punct (txt ":") ∷ []))
+  stated : {x : Line} → Stated P x → LineShape P x
 
 -- ---- what a block's destinations have to have
 pub record Lead (D : ℕ → Type 0) (H : Here) : Type 0 where
   pub fall : (a : ℕ) → H .block .fall ≡ some a → isNext (H .next) a ≡ false → D a
-  pub stmts : Each (λ s. s .dead ≡ false → Goes D H (s .kind)) (H .block .stmts)
+  pub stmts : Each (λ s. s .dead ≡ false → GoesTo D H (s .kind)) (H .block .stmts)
   pub close : (a : ℕ) → orElse (H .block .fall) (H .block .taken) ≡ some a → isNext (H .next) a ≡ false → D a
 
 abbrev pub hereAt : Block → List Block → Here
@@ -48,7 +49,7 @@ Leads D [] = Unit {0}
 Leads D (b ∷ bs) = Lead D (hereAt b bs) × Leads D bs
 
 -- nothing is asked of them
-goes-any : (H : Here) (k : Kind) → Goes (λ a. Unit {0}) H k
+goes-any : (H : Here) (k : Kind) → GoesTo (λ a. Unit {0}) H k
 goes-any H (Assign v x) = tt
 goes-any H (Store n a x) = tt
 goes-any H (Call t xs r c) = tt
@@ -58,7 +59,7 @@ goes-any H (Flags t a b) = tt
 goes-any H (Return x) = tt
 goes-any H (Other t us ds) = tt
 
-stmts-any : (H : Here) (ss : List Stmt) → Each (λ s. s .dead ≡ false → Goes (λ a. Unit {0}) H (s .kind)) ss
+stmts-any : (H : Here) (ss : List Stmt) → Each (λ s. s .dead ≡ false → GoesTo (λ a. Unit {0}) H (s .kind)) ss
 stmts-any H [] = end
 stmts-any H (s ∷ ss) = (λ d. goes-any H (s .kind)) ▸ stmts-any H ss
 
@@ -94,14 +95,14 @@ unfolding labelLine labelsOf gather line labelOf labelName
 label-labels L a = go (among a (L .jumps))
   where
     go : (b : Bool) → labelsOf (cond b (line 0 (some a) (symbol (label a) ∷ punct (txt ":") ∷ []) ∷ []) []) ≡ cond b (label a ∷ []) []
-    go true = ap (λ (k : Sort). labelOf k ++ []) (label-sort (label a))
+    go true = ap (λ (k : Sort). labelOf k ++ []) (label-line (label a))
     go false = refl
 
 -- ---- blocks
 module _ {P : List ℕ → Type 0} (L : Lowering) (sound : Sound P (L .gen)) (D : ℕ → Type 0) (aim : (a : ℕ) → D a → P (targetName (L .starts) (L .gen .supplied) a)) where
-  label-shaped : (a : ℕ) → Each (Shaped P) (labelLine L a)
+  label-shaped : (a : ℕ) → Each (LineShape P) (labelLine L a)
   unfolding labelLine
-  label-shaped a = by-cond (Each (Shaped P)) (among a (L .jumps)) (λ h. labelled a ▸ end) (λ h. end)
+  label-shaped a = by-cond (Each (LineShape P)) (among a (L .jumps)) (λ h. labelled a ▸ end) (λ h. end)
 
   module _ (H : Here) (lead : Lead D H) where
     abbrev ending : List Line
@@ -114,9 +115,9 @@ module _ {P : List ℕ → Type 0} (L : Lowering) (sound : Sound P (L .gen)) (D 
     ending-stated =
         by-cond (Each (Stated P)) (lastLeaves false (H .block .stmts)) (λ h. end) (λ h. closing-lines L sound D aim H (orElse (H .block .fall) (H .block .taken)) (lead .close))
 
-    block-shaped : Each (Shaped P) (lowerBlock L H)
+    block-shaped : Each (LineShape P) (lowerBlock L H)
     unfolding lowerBlock
-    block-shaped = each-append (each-append (label-shaped (H .block .start)) (each-map (λ x. stated) stmts-stated)) (each-map (λ x. stated) ending-stated)
+    block-shaped = each-append (each-append (label-shaped (H .block .start)) (each-to (λ x. stated) stmts-stated)) (each-to (λ x. stated) ending-stated)
 
     block-labels : labelsOf (lowerBlock L H) ≡ cond (among (H .block .start) (L .jumps)) (label (H .block .start) ∷ []) []
     unfolding lowerBlock
@@ -129,7 +130,7 @@ module _ {P : List ℕ → Type 0} (L : Lowering) (sound : Sound P (L .gen)) (D 
         ∙ ap₂ (λ (x y : List (List ℕ)). x ++ y) (label-labels L a) (no-labels stmts-stated)
         ∙ append-nil (cond (among a (L .jumps)) (label a ∷ []) [])
 
-  blocks-shaped : (bs : List Block) → Leads D bs → Each (Shaped P) (lowerBlocks L bs)
+  blocks-shaped : (bs : List Block) → Leads D bs → Each (LineShape P) (lowerBlocks L bs)
   unfolding lowerBlocks
   blocks-shaped [] h = end
   blocks-shaped (b ∷ bs) h = each-append (block-shaped (hereAt b bs) (h .0)) (blocks-shaped bs (h .1))
@@ -147,11 +148,6 @@ module _ {P : List ℕ → Type 0} (L : Lowering) (sound : Sound P (L .gen)) (D 
       go false r = refl
 
 -- ---- all of lowering
-some-bytes : (s : List ℕ) → not (isEmpty s) ≡ true → 1 ≤ length s
-unfolding isEmpty
-some-bytes [] e = absurd (false≢true e)
-some-bytes (b ∷ s) e = omega arith
-
 open-supplied : (G : Gen) (ps : List InPlace) → openAll G ps .supplied ≡ G .supplied
 unfolding openAll openNext
 open-supplied G [] = refl
@@ -166,7 +162,7 @@ module _ (F : Function) (t : List Known) where
     unfolding lowering gen
     sound = open-all gen (inline F (readsOf F)) (record { globals = globals; opened = end })
 
-    pub lower-shaped : (D : ℕ → Type 0) → ((a : ℕ) → D a → P (targetName (order F) (F .names) a)) → Leads D (F .blocks) → Each (Shaped P) (lower F t)
+    pub lower-shaped : (D : ℕ → Type 0) → ((a : ℕ) → D a → P (targetName (order F) (F .names) a)) → Leads D (F .blocks) → Each (LineShape P) (lower F t)
     unfolding lower lowering gen
     lower-shaped D aim leads =
         blocks-shaped (lowering F t) sound D
@@ -179,11 +175,10 @@ module _ (F : Function) (t : List Known) where
   lower-labels = blocks-labels {P = λ s. Unit {0}} (lowering F t) (sound (λ c n s e. tt)) (λ a. Unit {0}) (λ a d. tt) (F .blocks) (leads-any (F .blocks))
 
   -- every line has its shape, and the names that jumps aim at are not empty, if no supplied name is
-  pub shapes : all (λ n. not (isEmpty (n .text))) (F .names) ≡ true → Each (Shaped (λ s. 1 ≤ length s)) (lower F t)
+  pub shapes : Each (λ n. 1 ≤ length (n .text)) (F .names) → Each (LineShape (λ s. 1 ≤ length s)) (lower F t)
   unfolding label outward
-  shapes h =
+  shapes long =
       let Long : List ℕ → Type 0 = λ s. 1 ≤ length s in
-      let long : Each (λ n. Long (n .text)) (F .names) = each-map (λ n e. some-bytes (n .text) e) (all-each (λ n. not (isEmpty (n .text))) (F .names) h) in
       lower-shaped
       (λ c n s. by-global Long (F .names) c n s (by-prefix (λ p. Long (p ++ HEX c)) n (omega arith) (omega arith) (omega arith) (omega arith) (omega arith)) (supplied Long long c))
       (λ a. Unit {0}) (λ a d. by-target Long (order F) (F .names) a (λ m. omega arith) (omega arith) (λ s q b. supplied Long long a s q)) (leads-any (F .blocks))

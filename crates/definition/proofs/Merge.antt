@@ -1,105 +1,143 @@
--- `merge`: it keeps the text, never makes a `goto` nor more tokens, and goes on either side of a keyword, which joins nothing.
+-- `merge`: it joins Punct with Punct and Text with Text, so it keeps the text, never makes a `goto` nor more tokens, and goes on either side of a
+-- keyword, which joins nothing; to merge a part first changes nothing. Kinds of tokens are numbers, as in the definition: 0 Text, 3 Keyword, 4 Symbol, 6 Punct.
 use mathlib.Core.Path.{_≡_, refl, sym, ap, _∙_}
 use mathlib.Core.Bool.{Bool, true, false, cond, _&&_, _||_, and-false}
-use mathlib.Core.List.{List, [], _∷_, _++_}
+use mathlib.Core.List.{List, [], _∷_, _++_, append-assoc}
 use Prim.Native.Nat.{ℕ, suc, _+_, _≤_}
 use native.Mathlib.Omega.{arith}
-use borrow.Author.Tests.{eqb-true}
+use borrow.Author.Tests.{eqb-true, eq-eqb}
 use lib.Dec.{eqb}
 use lib.ListN.{length, length-append}
 use Rattle.definition.specs.Texts.{txt, same}
 use Rattle.definition.specs.Tokens.{Token, tok, keyword, punct, joins, join, merge, textOf}
 use Rattle.definition.specs.Sorts.{isTok}
-use Rattle.definition.proofs.Bools.{and-left, and-right, or-cases, is-false, by-cond}
-use Rattle.definition.proofs.ListLaws.{Each}
-use Rattle.definition.proofs.Fits.{size}
+use Rattle.definition.proofs.Bools.{both-true, or-cases, by-cond, both-false, by-test}
+use Rattle.definition.proofs.ListLaws.{Each, end, _▸_}
 
--- no token is the keyword `goto`
+-- ---- no token is the keyword `goto`
+abbrev pub NotGoto : Token → Type 0
+NotGoto t = isTok (keyword (txt "goto")) t ≡ false
+
 abbrev pub NoGoto : List Token → Type 0
-NoGoto ts = Each (λ t. isTok (keyword (txt "goto")) t ≡ false) ts
+NoGoto ts = Each NotGoto ts
 
-pub no-keyword : (t : Token) → eqb (t .kind) 3 ≡ false → isTok (keyword (txt "goto")) t ≡ false
+pub no-keyword : (t : Token) → eqb (t .kind) 3 ≡ false → NotGoto t
 unfolding isTok
 no-keyword t e = ap (λ (b : Bool). b && same (t .text) (txt "goto")) e
 
--- ---- two tokens that are one
-joins-kind : (t u : Token) → joins t u ≡ true → t .kind ≡ u .kind
-unfolding joins
-joins-kind t u e = eqb-true (t .kind) (u .kind) (and-left (eqb (t .kind) (u .kind)) (eqb (t .kind) 6 || eqb (t .kind) 0) e)
+-- ---- two tokens that are one: of one kind, Punct or Text
+pub record Joined (t u : Token) : Type 0 where
+  pub alike : t .kind ≡ u .kind
+  pub fuse : (eqb (t .kind) 6 || eqb (t .kind) 0) ≡ true
+  pub unlike : (k : ℕ) → (eqb 6 k || eqb 0 k) ≡ false → eqb (t .kind) k ≡ false
 
-joins-no-keyword : (t u : Token) → joins t u ≡ true → eqb (t .kind) 3 ≡ false
+joined : (t u : Token) → joins t u ≡ true → Joined t u
 unfolding joins
-joins-no-keyword t u e =
-    is-false (eqb (t .kind) 3) (λ k.
-    let three = eqb-true (t .kind) 3 k in
-    or-cases (eqb (t .kind) 6) (eqb (t .kind) 0) (λ z. omega (arith, eqb-true (t .kind) 6 z)) (λ z. omega (arith, eqb-true (t .kind) 0 z))
-    (and-right (eqb (t .kind) (u .kind)) (eqb (t .kind) 6 || eqb (t .kind) 0) e))
+joined t u e =
+    let h = both-true (eqb (t .kind) (u .kind)) (eqb (t .kind) 6 || eqb (t .kind) 0) e in
+    record { alike = eqb-true (t .kind) (u .kind) (h .0); fuse = h .1; unlike = other (h .1) }
+  where
+    other : (eqb (t .kind) 6 || eqb (t .kind) 0) ≡ true → (k : ℕ) → (eqb 6 k || eqb 0 k) ≡ false → eqb (t .kind) k ≡ false
+    other f k n =
+        let q = both-false (eqb 6 k) (eqb 0 k) n in
+        or-cases (eqb (t .kind) 6) (eqb (t .kind) 0) (λ z. ap (λ (m : ℕ). eqb m k) (eqb-true (t .kind) 6 z) ∙ q .0) (λ z. ap (λ (m : ℕ). eqb m k) (eqb-true (t .kind) 0 z) ∙ q .1) f
 
 -- what holds of a join, by whether the two are one
-pub by-join {ℓ} : (P : List Token → Type ℓ) (t u : Token) (us : List Token) → (t .kind ≡ u .kind → eqb (t .kind) 3 ≡ false → P (tok (t .kind) (t .text ++ u .text) ∷ us))
-    → P (t ∷ u ∷ us) → P (join t (u ∷ us))
+pub by-join {ℓ} : (P : List Token → Type ℓ) (t u : Token) (us : List Token) → (Joined t u → P (tok (t .kind) (t .text ++ u .text) ∷ us)) → P (t ∷ u ∷ us) → P (join t (u ∷ us))
 unfolding join
-by-join P t u us h k = by-cond P (joins t u) _ _ (λ e. h (joins-kind t u e) (joins-no-keyword t u e)) (λ e. k)
+by-join P t u us h k = by-cond P (joins t u) (λ e. h (joined t u e)) (λ e. k)
 
 -- ---- no goto is made
-nogoto-join : (t : Token) (us : List Token) → isTok (keyword (txt "goto")) t ≡ false → NoGoto us → NoGoto (join t us)
+nogoto-join : (t : Token) (us : List Token) → NotGoto t → NoGoto us → NoGoto (join t us)
 unfolding join
-nogoto-join t [] h k = (h, tt)
-nogoto-join t (u ∷ us) h k = by-join NoGoto t u us (λ e n. (no-keyword _ n, k .1)) (h, k)
+nogoto-join t [] h k = h ▸ end
+nogoto-join t (u ∷ us) h (c ▸ k) = by-join NoGoto t u us (λ j. no-keyword _ (j .unlike 3 refl) ▸ k) (h ▸ c ▸ k)
 
-pub nogoto-merge : (ts : List Token) → NoGoto ts → NoGoto (merge ts)
+pub nogoto-merge : {ts : List Token} → NoGoto ts → NoGoto (merge ts)
 unfolding merge
-nogoto-merge [] h = tt
-nogoto-merge (t ∷ ts) h = nogoto-join t (merge ts) (h .0) (nogoto-merge ts (h .1))
+nogoto-merge end = end
+nogoto-merge (_▸_ {x = t} {xs = ts} c h) = nogoto-join t (merge ts) c (nogoto-merge h)
 
--- ---- beside a keyword
-pub join-keyword : (w : List ℕ) (us : List Token) → join (keyword w) us ≡ keyword w ∷ us
+-- ---- a token that is neither Punct nor Text stays as it is
+pub lone-join : (k : ℕ) (w : List ℕ) → (eqb k 6 || eqb k 0) ≡ false → (us : List Token) → join (tok k w) us ≡ tok k w ∷ us
 unfolding join joins
-join-keyword w [] = refl
-join-keyword w (u ∷ us) = ap (λ (b : Bool). cond b (tok 3 (w ++ u .text) ∷ us) (keyword w ∷ u ∷ us)) (and-false (eqb 3 (u .kind)))
+lone-join k w lone [] = refl
+lone-join k w lone (u ∷ us) =
+    ap (λ (b : Bool). cond b (tok k (w ++ u .text) ∷ us) (tok k w ∷ u ∷ us)) (ap (λ (b : Bool). eqb k (u .kind) && b) lone ∙ and-false (eqb k (u .kind)))
 
-join-front : (t : Token) (us : List Token) (w : List ℕ) (ms : List Token) → join t (us ++ keyword w ∷ ms) ≡ join t us ++ keyword w ∷ ms
+-- what stands behind the second token does not matter
+pub join-further : (t u : Token) (us Z : List Token) → join t (u ∷ (us ++ Z)) ≡ join t (u ∷ us) ++ Z
 unfolding join
-join-front t [] w ms = by-join (λ z. z ≡ t ∷ keyword w ∷ ms) t (keyword w) ms (λ e n. let z : _≡_ {A = Bool} true false = sym (ap (λ k. eqb k 3) e) ∙ n in cc) refl
-join-front t (u ∷ us) w ms = go (joins t u)
+join-further t u us Z = go (joins t u)
   where
-    go : (b : Bool) → cond b (tok (t .kind) (t .text ++ u .text) ∷ (us ++ keyword w ∷ ms)) (t ∷ u ∷ (us ++ keyword w ∷ ms))
-        ≡ cond b (tok (t .kind) (t .text ++ u .text) ∷ us) (t ∷ u ∷ us) ++ keyword w ∷ ms
+    go : (b : Bool) → cond b (tok (t .kind) (t .text ++ u .text) ∷ (us ++ Z)) (t ∷ u ∷ (us ++ Z)) ≡ cond b (tok (t .kind) (t .text ++ u .text) ∷ us) (t ∷ u ∷ us) ++ Z
     go true = refl
     go false = refl
 
 pub merge-keyword : (ts : List Token) (w : List ℕ) (rs : List Token) → merge (ts ++ keyword w ∷ rs) ≡ merge ts ++ keyword w ∷ merge rs
-unfolding merge
-merge-keyword [] w rs = join-keyword w (merge rs)
-merge-keyword (t ∷ ts) w rs = ap (join t) (merge-keyword ts w rs) ∙ join-front t (merge ts) w (merge rs)
+unfolding merge join
+merge-keyword [] w rs = lone-join 3 w refl (merge rs)
+merge-keyword (t ∷ ts) w rs = ap (join t) (merge-keyword ts w rs) ∙ further (merge ts)
+  where
+    further : (M : List Token) → join t (M ++ keyword w ∷ merge rs) ≡ join t M ++ keyword w ∷ merge rs
+    further [] =
+        by-join (λ z. z ≡ join t [] ++ keyword w ∷ merge rs) t (keyword w) (merge rs)
+        (λ j. let z : _≡_ {A = Bool} true false = sym (ap (λ k. eqb k 3) (j .alike)) ∙ j .unlike 3 refl in cc) refl
+    further (u ∷ us) = join-further t u us (keyword w ∷ merge rs)
+
+-- ---- a part merged first
+join-twice : (k : ℕ) (x y : List ℕ) (M : List Token) → (eqb k 6 || eqb k 0) ≡ true → join (tok k (x ++ y)) M ≡ join (tok k x) (join (tok k y) M)
+unfolding join joins
+join-twice k x y [] h = rw (h, eq-eqb k k refl)
+join-twice k x y (u ∷ us) h =
+    by-test (eqb k (u .kind)) (λ e. rw (e, h, eq-eqb k k refl, h, append-assoc x y (u .text))) (λ e. rw (e, h, eq-eqb k k refl))
+
+pub merge-again : (B D : List Token) → merge (merge B ++ D) ≡ merge (B ++ D)
+unfolding merge join
+merge-again [] D = refl
+merge-again (t ∷ B) D = first (merge B) ∙ ap (join t) (merge-again B D)
+  where
+    first : (M : List Token) → merge (join t M ++ D) ≡ join t (merge (M ++ D))
+    first [] = refl
+    first (u ∷ us) =
+        by-join (λ z. merge (z ++ D) ≡ join t (merge (u ∷ (us ++ D)))) t u us
+        (λ j. join-twice (t .kind) (t .text) (u .text) (merge (us ++ D)) (j .fuse) ∙ ap (λ (k : ℕ). join t (join (tok k (u .text)) (merge (us ++ D)))) (j .alike)) refl
 
 -- ---- the text
+text-join : (t : Token) (us : List Token) → textOf (join t us) ≡ t .text ++ textOf us
+unfolding join textOf
+text-join t [] = refl
+text-join t (u ∷ us) = by-join (λ z. textOf z ≡ t .text ++ (u .text ++ textOf us)) t u us (λ j. append-assoc (t .text) (u .text) (textOf us)) refl
+
+pub text-merge : (ts : List Token) → textOf (merge ts) ≡ textOf ts
+unfolding merge textOf
+text-merge [] = refl
+text-merge (t ∷ ts) = text-join t (merge ts) ∙ ap (λ (s : List ℕ). t .text ++ s) (text-merge ts)
+
+pub text-append : (xs ys : List Token) → textOf (xs ++ ys) ≡ textOf xs ++ textOf ys
+unfolding textOf
+text-append [] ys = refl
+text-append (t ∷ xs) ys = ap (λ (s : List ℕ). t .text ++ s) (text-append xs ys) ∙ sym (append-assoc (t .text) (textOf xs) (textOf ys))
+
+-- its length
+abbrev pub size : List Token → ℕ
+size ts = length (textOf ts)
+
 pub size-cons : (t : Token) (ts : List Token) → size (t ∷ ts) ≡ length (t .text) + size ts
 unfolding textOf
 size-cons t ts = length-append (t .text) (textOf ts)
 
 pub size-append : (xs ys : List Token) → size (xs ++ ys) ≡ size xs + size ys
-unfolding textOf
-size-append [] ys = omega arith
-size-append (x ∷ xs) ys = omega (arith, size-cons x (xs ++ ys), size-cons x xs, size-append xs ys)
-
-size-join : (t : Token) (us : List Token) → size (join t us) ≡ length (t .text) + size us
-unfolding join
-size-join t [] = size-cons t []
-size-join t (u ∷ us) =
-    by-join (λ z. size z ≡ length (t .text) + size (u ∷ us)) t u us
-    (λ e n. omega (arith, size-cons (tok (t .kind) (t .text ++ u .text)) us, length-append (t .text) (u .text), size-cons u us)) (size-cons t (u ∷ us))
+size-append xs ys = ap length (text-append xs ys) ∙ length-append (textOf xs) (textOf ys)
 
 pub size-merge : (ts : List Token) → size (merge ts) ≡ size ts
-unfolding merge
-size-merge [] = refl
-size-merge (t ∷ ts) = omega (arith, size-join t (merge ts), size-merge ts, size-cons t ts)
+size-merge ts = ap length (text-merge ts)
 
 -- ---- the number of tokens
 pub join-length : (t : Token) (us : List Token) → length (join t us) ≤ suc (length us)
 unfolding join
 join-length t [] = omega arith
-join-length t (u ∷ us) = by-join (λ z. length z ≤ suc (suc (length us))) t u us (λ e n. omega arith) (omega arith)
+join-length t (u ∷ us) = by-join (λ z. length z ≤ suc (suc (length us))) t u us (λ j. omega arith) (omega arith)
 
 pub merge-length : (xs ys : List Token) → length (merge (xs ++ ys)) ≤ length xs + length (merge ys)
 unfolding merge
@@ -110,8 +148,4 @@ merge-length (x ∷ xs) ys = omega (arith, join-length x (merge (xs ++ ys)), mer
 pub join-two : (a b : List ℕ) (us : List Token) → length (join (punct a) (join (punct b) us)) ≤ suc (length us)
 unfolding join joins
 join-two a b [] = omega arith
-join-two a b (u ∷ us) = go (joins (punct b) u)
-  where
-    go : (q : Bool) → length (join (punct a) (cond q (punct (b ++ u .text) ∷ us) (punct b ∷ u ∷ us))) ≤ suc (suc (length us))
-    go true = omega arith
-    go false = omega arith
+join-two a b (u ∷ us) = by-join (λ z. length (join (punct a) z) ≤ suc (suc (length us))) (punct b) u us (λ j. omega arith) (omega arith)

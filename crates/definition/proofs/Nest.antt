@@ -11,9 +11,11 @@ use Rattle.definition.specs.Tokens.{Line}
 use Rattle.definition.specs.Sorts.{Sort, sort}
 use Rattle.definition.specs.Sorts.Sort.{label, condTo, jumpTo, plain, ifOpen, close, doOpen, whileClose}
 use Rattle.definition.specs.Passes.{labelName, named, opened, closer, raised, doLine, whileLine, formIf, formDo}
+use Rattle.definition.proofs.ListLaws.{_▸_}
 use Rattle.definition.proofs.SortLaws.{is-some, label-sort}
-use Rattle.definition.proofs.Fits.{Fit, close-sort, do-sort}
-use Rattle.definition.proofs.Regions.{Runs, IfHere, DoHere}
+use Rattle.definition.proofs.TokenSorts.{close-sort, do-sort}
+use Rattle.definition.proofs.Fits.{Fit}
+use Rattle.definition.proofs.Regions.{ScanPasses, IfHere, DoHere}
 use Rattle.definition.proofs.Stops.{stops-plain}
 
 pub data Mark : Type 0 where
@@ -73,13 +75,13 @@ module _ (m : Mark) (base : List Mark) where
   act-lift doOpen a s′ n h w = (aDo ∷ a, h .1, (omega (arith, h .0, longer a), refl))
   act-lift whileClose a s′ n h w = let p = pops aDo a s′ n (h .0) (h .1) (w refl) in (p .0, p .1, (p .2, p .3))
 
-  nest-lift : (mid : List Line) (a s′ : List Mark) → Nest (a ++ base) mid s′ → Runs (suc (length base)) mid
+  nest-lift : (mid : List Line) (a s′ : List Mark) → Nest (a ++ base) mid s′ → ScanPasses (suc (length base)) mid
       → (b : List Mark) × (s′ ≡ b ++ base) × Nest (a ++ m ∷ base) (raised mid) (b ++ m ∷ base)
   nest-lift [] a s′ h w = (a, sym h, refl)
-  nest-lift (x ∷ xs) a s′ h w =
-      let low : has (labelName (sort x)) ≡ false → suc (length base) ≤ x .indent = λ n. ltb-false (x .indent) (suc (length base)) (sym (stops-plain (suc (length base)) x n) ∙ w .0) in
+  nest-lift (x ∷ xs) a s′ h (v ▸ w) =
+      let low : has (labelName (sort x)) ≡ false → suc (length base) ≤ x .indent = λ n. ltb-false (x .indent) (suc (length base)) (sym (stops-plain (suc (length base)) x n) ∙ v) in
       let l = act-lift (sort x) a (h .0) (x .indent) (h .1) low in
-      let r = nest-lift xs (l .0) s′ (subst (λ (z : List Mark). Nest z xs s′) (l .1) (h .2)) (w .1) in
+      let r = nest-lift xs (l .0) s′ (subst (λ (z : List Mark). Nest z xs s′) (l .1) (h .2)) w in
       (r .0, r .1, (l .0 ++ m ∷ base, l .2, r .2))
 
 no-length : (b s : List Mark) → length (b ++ s) ≡ length s → b ≡ []
@@ -87,9 +89,9 @@ no-length [] s e = refl
 no-length (c ∷ b) s e = absurd (omega (arith, length-append b s))
 
 -- lines that leave as many braces open as they found, inside one more brace
-wrap : (m : Mark) (s : List Mark) (mid : List Line) (s₂ : List Mark) → Nest s mid s₂ → length s₂ ≡ length s → Runs (suc (length s)) mid
+nest-wrap : (m : Mark) (s : List Mark) (mid : List Line) (s₂ : List Mark) → Nest s mid s₂ → length s₂ ≡ length s → ScanPasses (suc (length s)) mid
     → (s₂ ≡ s) × Nest (m ∷ s) (raised mid) (m ∷ s)
-wrap m s mid s₂ h e w =
+nest-wrap m s mid s₂ h e w =
     let r = nest-lift m s mid [] s₂ h w in
     let z : r .0 ≡ [] = no-length (r .0) s (sym (ap length (r .1)) ∙ e) in
     (r .1 ∙ ap (λ (b : List Mark). b ++ s) z, subst (λ (b : List Mark). Nest (m ∷ s) (raised mid) (b ++ m ∷ s)) z (r .2))
@@ -108,7 +110,7 @@ nest-if pre l mid x rest t i f h =
     let b = nest-split s mid (x ∷ rest) [] (subst (λ (z : List Mark). Nest z (mid ++ x ∷ rest) []) (al .1) (a .2 .2)) in
     let ax = act-as (sort x) (label t) (b .0) (x .indent) (b .2 .0) (label-sort (sort x) t (is-some t (labelName (sort x)) (i .is-goal))) (b .2 .1) in
     let same : length (b .0) ≡ length s = omega (arith, al .0, i .outside, ax .0) in
-    let v = wrap anIf s mid (b .0) (b .1) same (subst (λ (d : ℕ). Runs d mid) (al .0) (i .runs)) in
+    let v = nest-wrap anIf s mid (b .0) (b .1) same (subst (λ (d : ℕ). ScanPasses d mid) (al .0) (i .runs)) in
     nest-append [] pre _ s [] (a .1) (
       anIf ∷ s,
       act-as ifOpen (sort (opened l)) s (l .indent) (anIf ∷ s) (sym (f .open-sort)) (al .0, refl),
@@ -128,7 +130,7 @@ nest-do pre l mid y post t i f h =
     let b = nest-split s mid (y ∷ post) [] (subst (λ (z : List Mark). Nest z (mid ++ y ∷ post) []) (al .1) (a .2 .2)) in
     let ay = act-as (sort y) (condTo t) (b .0) (y .indent) (b .2 .0) (i .is-back) (b .2 .1) in
     let same : length (b .0) ≡ length s = omega (arith, al .0, i .level, ay .0) in
-    let v = wrap aDo s mid (b .0) (b .1) same (subst (λ (d : ℕ). Runs (suc d) mid) (al .0) (i .runs)) in
+    let v = nest-wrap aDo s mid (b .0) (b .1) same (subst (λ (d : ℕ). ScanPasses (suc d) mid) (al .0) (i .runs)) in
     nest-append [] pre _ s [] (a .1) (
       aDo ∷ s,
       act-as doOpen (sort (doLine l)) s (suc (l .indent)) (aDo ∷ s) (sym do-sort) (ap suc (al .0), refl),

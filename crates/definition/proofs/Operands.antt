@@ -16,7 +16,9 @@ use Rattle.definition.specs.Inline.{InPlace}
 use Rattle.definition.specs.Numbers.{num, slot}
 use Rattle.definition.specs.Tokens.{Token, textual, register, numeral, symbol, punct}
 use Rattle.definition.specs.Render.{Opened, Gen, openedAt, variable, useOr, addressOr, nested, pointer, through, slotOr, globalOf, globalOr, operator, expr, openNext, openAll}
-use Rattle.definition.proofs.Signs.{sharp, Dull, or-none}
+use Rattle.definition.proofs.Bools.{both-false}
+use Rattle.definition.proofs.ListLaws.{Each, each-append, _▸_, end}
+use Rattle.definition.proofs.Signs.{sharp, Dull}
 use Rattle.definition.proofs.Calm.{Depth, cold, hot, lost, up, down, heat, cool, byte, bytes, pass, walk, Calm, walk-append, cool-cool}
 
 -- ---- words, and tokens behind a word
@@ -46,31 +48,31 @@ nested-calm Z h s = walk-append (up s) Z (punct (txt ")") ∷ []) ∙ ap down (h
 abbrev paren : ℕ → Bool
 paren b = eqb 40 b || eqb 41 b
 
-abbrev pub Flat : List ℕ → Type 0
-Flat m = any paren m ≡ false
+abbrev pub NoParen : List ℕ → Type 0
+NoParen m = any paren m ≡ false
 
-flat-byte : (s : Depth) (b : ℕ) (m : List ℕ) → Flat (b ∷ m) → (byte s b ≡ cond (sharp b) (heat s) s) × Flat m
+flat-byte : (s : Depth) (b : ℕ) (m : List ℕ) → NoParen (b ∷ m) → (byte s b ≡ cond (sharp b) (heat s) s) × NoParen m
 unfolding byte any
 flat-byte s b m f =
-    let f₂ = or-none (paren b) (any paren m) f in
-    let p = or-none (eqb 40 b) (eqb 41 b) (f₂ .0) in
+    let f₂ = both-false (paren b) (any paren m) f in
+    let p = both-false (eqb 40 b) (eqb 41 b) (f₂ .0) in
     (rw (p .0, p .1), f₂ .1)
 
 -- inside of parentheses such a text leaves the depth
-abbrev Within : Depth → Type 0
-Within (cold zero) = ⊥
-Within (cold (suc d)) = Unit
-Within (hot d) = Unit
-Within lost = Unit
+abbrev Inside : Depth → Type 0
+Inside (cold zero) = ⊥
+Inside (cold (suc d)) = Unit
+Inside (hot d) = Unit
+Inside lost = Unit
 
-heat-within : (s : Depth) → Within s → Within (heat s) × (cool (heat s) ≡ cool s)
+heat-within : (s : Depth) → Inside s → Inside (heat s) × (cool (heat s) ≡ cool s)
 unfolding heat cool
 heat-within (cold zero) w = absurd w
 heat-within (cold (suc d)) w = (tt, refl)
 heat-within (hot d) w = (tt, refl)
 heat-within lost w = (tt, refl)
 
-flat-cool : (m : List ℕ) (s : Depth) → Within s → Flat m → cool (bytes s m) ≡ cool s
+flat-cool : (m : List ℕ) (s : Depth) → Inside s → NoParen m → cool (bytes s m) ≡ cool s
 unfolding bytes
 flat-cool [] s w f = refl
 flat-cool (b ∷ m) s w f =
@@ -82,54 +84,54 @@ flat-cool (b ∷ m) s w f =
     go true y z = z
     go false y z = y
 
-pair-deep : (X Y : List Token) (m : List ℕ) → Calm X → Calm Y → Flat m → Deep (X ++ (punct m ∷ Y))
+pair-deep : (X Y : List Token) (m : List ℕ) → Calm X → Calm Y → NoParen m → Deep (X ++ (punct m ∷ Y))
 unfolding walk pass up cool
 pair-deep X Y m x y f s =
     walk-append (up s) X (punct m ∷ Y) ∙ ap (λ (z : Depth). walk (bytes z m) Y) (x (up s)) ∙ y (bytes (cool (up s)) m)
     ∙ flat-cool m (cool (up s)) (within s) f ∙ cool-cool (up s)
   where
-    within : (s : Depth) → Within (cool (up s))
+    within : (s : Depth) → Inside (cool (up s))
     within (cold d) = tt
     within (hot d) = tt
     within lost = tt
 
-pub pair-calm : (X Y : List Token) (m : List ℕ) → Calm X → Calm Y → Flat m
+pub pair-calm : (X Y : List Token) (m : List ℕ) → Calm X → Calm Y → NoParen m
     → Calm (punct (txt "(") ∷ (X ++ (punct m ∷ (Y ++ (punct (txt ")") ∷ [])))))
 pair-calm X Y m x y f = rw append-assoc at (nested-calm (X ++ (punct m ∷ Y)) (pair-deep X Y m x y f))
 
 -- an operator with one operand may stand outside of all
-still : (s : Depth) (o : List ℕ) → Flat o → Dull o → bytes s o ≡ s
+still : (s : Depth) (o : List ℕ) → NoParen o → Dull o → bytes s o ≡ s
 unfolding bytes any
 still s [] f d = refl
 still s (b ∷ o) f d =
     let q = flat-byte s b o f in
-    let d₂ = or-none (sharp b) (any sharp o) d in
+    let d₂ = both-false (sharp b) (any sharp o) d in
     let e : byte s b ≡ s = q .0 ∙ ap (λ (x : Bool). cond x (heat s) s) (d₂ .0) in
     ap (λ (z : Depth). bytes z o) e ∙ still s o (q .1) (d₂ .1)
 
-prefix-calm : (o : List ℕ) (X : List Token) → Flat o → Dull o → Calm X → Calm (punct o ∷ X)
+prefix-calm : (o : List ℕ) (X : List Token) → NoParen o → Dull o → Calm X → Calm (punct o ∷ X)
 unfolding walk pass
 prefix-calm o X f d x s = ap (λ (z : Depth). walk z X) (still s o f d) ∙ x s
 
 -- an operator with two operands is printed between spaces, without its trailing `s`
-operator-flat : (o : List ℕ) → Flat o → Flat (operator o .text)
+operator-flat : (o : List ℕ) → NoParen o → NoParen (operator o .text)
 unfolding operator any trimEnd
 operator-flat o f = spaced (trimEnd 115 o) (trimmed o f)
   where
-    spaced : (m : List ℕ) → Flat m → Flat (m ++ txt " ")
+    spaced : (m : List ℕ) → NoParen m → NoParen (m ++ txt " ")
     spaced [] f = refl
     spaced (b ∷ m) f =
-        let f₂ = or-none (paren b) (any paren m) f in
+        let f₂ = both-false (paren b) (any paren m) f in
         rw (f₂ .0) (spaced m (f₂ .1))
 
-    kept : (x : Bool) (b : ℕ) (m : List ℕ) → paren b ≡ false → Flat m → Flat (cond x [] (b ∷ m))
+    kept : (x : Bool) (b : ℕ) (m : List ℕ) → paren b ≡ false → NoParen m → NoParen (cond x [] (b ∷ m))
     kept true b m p f = refl
     kept false b m p f = rw p f
 
-    trimmed : (o : List ℕ) → Flat o → Flat (trimEnd 115 o)
+    trimmed : (o : List ℕ) → NoParen o → NoParen (trimEnd 115 o)
     trimmed [] f = refl
     trimmed (b ∷ o) f =
-        let f₂ = or-none (paren b) (any paren o) f in
+        let f₂ = both-false (paren b) (any paren o) f in
         kept (eqb b 115 && isEmpty (trimEnd 115 o)) b (trimEnd 115 o) (f₂ .0) (trimmed o (f₂ .1))
 
 -- ---- expressions
@@ -137,8 +139,8 @@ operator-flat o f = spaced (trimEnd 115 o) (trimmed o f)
 abbrev pub Tame : Expr → Type 0
 Tame (Const c) = Unit
 Tame (Use v) = Unit
-Tame (Bin o x y) = Flat o × Tame x × Tame y
-Tame (Un o x) = Flat o × Dull o × Tame x
+Tame (Bin o x y) = NoParen o × Tame x × Tame y
+Tame (Un o x) = NoParen o × Dull o × Tame x
 Tame (Load n x) = Tame x
 Tame (Opaque t) = Unit
 
@@ -149,8 +151,7 @@ pub record Rests (inner top : List Token) : Type 0 where
 
 -- the values that are written in place print calmly
 abbrev pub Settled : List Opened → Type 0
-Settled [] = Unit
-Settled (o ∷ os) = Rests (o .inner) (o .top) × Settled os
+Settled os = Each (λ o. Rests (o .inner) (o .top)) os
 
 same-both : (X : List Token) → Calm X → Rests X X
 same-both X x = record { calm = x; deep = λ s. x (up s) }
@@ -163,11 +164,11 @@ choose false X X₂ Y Y₂ x y = y
 use-rests : (os : List Opened) → Settled os → (n : List ℕ) (v : Value) → Rests (useOr n (openedAt os false v)) (useOr n (openedAt os true v))
 unfolding useOr openedAt
 use-rests [] so n v = same-both (register n ∷ []) (word-calm (register n) refl)
-use-rests (o ∷ os) so n v = go (eqv (o .of) v) (use-rests os (so .1) n v)
+use-rests (o ∷ os) (r₀ ▸ so) n v = go (eqv (o .of) v) (use-rests os so n v)
   where
     go : (b : Bool) → Rests (useOr n (openedAt os false v)) (useOr n (openedAt os true v))
         → Rests (useOr n (cond b (some (o .inner)) (openedAt os false v))) (useOr n (cond b (some (o .top)) (openedAt os true v)))
-    go true r = so .0
+    go true r = r₀
     go false r = r
 
 address-rests : (n : ℕ) (X Y : List Token) → Rests X Y → Rests (addressOr n X) (addressOr n Y)
@@ -206,14 +207,9 @@ module _ (G : Gen) (settled : Settled (G .opened)) where
 
 -- ---- the values written in place, each printed where those before it are open
 abbrev pub AllTame : List InPlace → Type 0
-AllTame [] = Unit
-AllTame (p ∷ ps) = Tame (p .expr) × AllTame ps
-
-settled-snoc : (os : List Opened) (o : Opened) → Settled os → Rests (o .inner) (o .top) → Settled (os ++ (o ∷ []))
-settled-snoc [] o s r = (r, tt)
-settled-snoc (q ∷ os) o s r = (s .0, settled-snoc os o (s .1) r)
+AllTame ps = Each (λ p. Tame (p .expr)) ps
 
 pub settled-all : (G : Gen) (ps : List InPlace) → Settled (G .opened) → AllTame ps → Settled (openAll G ps .opened)
 unfolding openAll openNext
 settled-all G [] s h = s
-settled-all G (p ∷ ps) s h = settled-all (openNext G p) ps (settled-snoc (G .opened) _ s (rests G s (p .expr) (h .0))) (h .1)
+settled-all G (p ∷ ps) s (t ▸ h) = settled-all (openNext G p) ps (each-append s (rests G s (p .expr) t ▸ end)) h

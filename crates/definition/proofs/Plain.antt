@@ -7,7 +7,7 @@ use Rattle.definition.specs.Tokens.{Line}
 use Rattle.definition.specs.Sorts.{Sort, sort}
 use Rattle.definition.specs.Sorts.Sort.{label, condTo, jumpTo, plain, ifOpen, close, doOpen, whileClose}
 use Rattle.definition.specs.Passes.{named, aims}
-use Rattle.definition.proofs.ListLaws.{Each}
+use Rattle.definition.proofs.ListLaws.{Each, _▸_}
 use Rattle.definition.proofs.Fits.{Fits}
 use Rattle.definition.proofs.Nest.{Act, Nest}
 
@@ -54,4 +54,4 @@ flat-act whileClose n h = absurd h
 
 pub flat-nest : (ls : List Line) → Flat ls → Nest [] ls []
 flat-nest [] h = refl
-flat-nest (x ∷ xs) h = ([], flat-act (sort x) (x .indent) (h .0), flat-nest xs (h .1))
+flat-nest (x ∷ xs) (f ▸ h) = ([], flat-act (sort x) (x .indent) f, flat-nest xs h)

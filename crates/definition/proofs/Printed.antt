@@ -13,6 +13,7 @@ use Rattle.definition.specs.Condition.{Code, codeOf, Setter, Shown, show
 use Rattle.definition.specs.Condition.Code.{e, ne, l, ge, g, le, b, ae, a, be, s, ns}
 use Rattle.definition.specs.Condition.Setter.{cmp, test, self}
 use Rattle.definition.specs.Intel.{afterTest, afterFlags, after, intel, Says}
+use Rattle.definition.proofs.Bools.{by-test}
 use Rattle.definition.proofs.Flags.{faithful}
 use Rattle.definition.proofs.Equal.{eqe-true}
 
@@ -51,14 +52,13 @@ module _ (ss : List Stmt) (code : List ℕ) (c : Code) (p : Shown) (read : codeO
   printed false x y t last set is =
       let q : by cmp x y ≡ t = cc in
       from-setter false x y cmp last refl (λ w val. refl) (rw (← q) at is)
-  printed true x y t last set is = go (eqe x y) refl
-    where
-      go : (same : Bool) → eqe x y ≡ same → Printed ss code true x y c p
-      go true h =
-          let k : settingOf (Flags true x y) ≡ some (by self x y) = rw h in
-          let q : by self x y ≡ t = cc in
-          from-setter true x y self last k (λ w val. ap (λ (z : Expr). some (afterTest w (val x) (val z))) (eqe-true x y h)) (rw (← q) at is)
-      go false h =
-          let k : settingOf (Flags true x y) ≡ some (by test x y) = rw h in
-          let q : by test x y ≡ t = cc in
-          from-setter true x y test last k (λ w val. refl) (rw (← q) at is)
+  printed true x y t last set is =
+      by-test (eqe x y)
+      (λ h.
+      let k : settingOf (Flags true x y) ≡ some (by self x y) = rw h in
+      let q : by self x y ≡ t = cc in
+      from-setter true x y self last k (λ w val. ap (λ (z : Expr). some (afterTest w (val x) (val z))) (eqe-true x y h)) (rw (← q) at is))
+      (λ h.
+      let k : settingOf (Flags true x y) ≡ some (by test x y) = rw h in
+      let q : by test x y ≡ t = cc in
+      from-setter true x y test last k (λ w val. refl) (rw (← q) at is))

@@ -1,6 +1,6 @@
 -- What keeps a region from forming, as counts of labels and gotos.
-use mathlib.Core.Path.{_≡_, refl, sym, ap, _∙_}
-use mathlib.Core.Bool.{Bool, true, false, false≢true}
+use mathlib.Core.Path.{_≡_, ap, _∙_}
+use mathlib.Core.Bool.{true, false≢true}
 use mathlib.Core.Option.{Option, none, some}
 use mathlib.Core.List.{List, [], _∷_}
 use Prim.Native.Nat.{ℕ, _<_}
@@ -8,21 +8,11 @@ use native.Mathlib.Omega.{arith}
 use Rattle.definition.specs.Lists.{any, count}
 use Rattle.definition.specs.Tokens.{Line}
 use Rattle.definition.specs.Sorts.{sort}
-use Rattle.definition.specs.Passes.{labelName, is, named, aims, aimed, aimedAt, reached, unless}
-use Rattle.definition.proofs.Bools.{none-some, or-cases, or-left, or-right, by-test, same-refl}
+use Rattle.definition.specs.Passes.{labelName, is, named, aims, aimed, aimedAt, reached}
+use Rattle.definition.proofs.Bools.{or-cases, or-left, or-right, by-test}
+use Rattle.definition.proofs.TextLaws.{same-refl}
 use Rattle.definition.proofs.ListLaws.{bit, count-cons, any-count, count-any}
 use Rattle.definition.proofs.SortLaws.{is-some}
-
--- what `unless` tests
-pub unless-test : (b : Bool) (mid out : List Line) → unless b mid out ≡ none → b ≡ true
-unfolding unless
-unless-test true mid out e = refl
-unless-test false mid out e = none-some (sym e)
-
-pub unless-none : (b : Bool) (mid out : List Line) → b ≡ true → unless b mid out ≡ none
-unfolding unless
-unless-none true mid out e = refl
-unless-none false mid out e = absurd (false≢true e)
 
 -- a label of `mid` that a line of `ls` aims at
 abbrev pub Reach : List Line → List Line → Type 0

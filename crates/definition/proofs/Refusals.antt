@@ -1,12 +1,12 @@
 -- Every file gets exactly one of: one refusal of 2 to 9, or a listing. A number is given exactly when its condition holds and none before it does.
 -- The outcome is read as the first of eight tests that holds, and both directions are an induction over the tests.
-use mathlib.Core.Path.{_≡_, refl, sym, ap, subst, _∙_}
+use mathlib.Core.Path.{_≡_, refl, sym, ap, _∙_}
 use mathlib.Core.Logic.{_⊎_, inl, inr}
-use mathlib.Core.Bool.{Bool, true, false, cond, _&&_}
+use mathlib.Core.Bool.{Bool, true, false, cond, _&&_, true≢false, false≢true}
 use mathlib.Core.List.{List, [], _∷_}
 use Prim.Native.Nat.{ℕ, zero, suc, _+_, _≤_, _<_}
 use native.Mathlib.Omega.{arith}
-use lib.Dec.{T, eqb}
+use lib.Dec.{eqb}
 use lib.ListN.{length, getD}
 use Rattle.definition.specs.Edition.{Edition}
 use Rattle.definition.specs.Shape.{refused2, refused3, refused4}
@@ -20,6 +20,7 @@ use Rattle.definition.specs.Passes.{Passed, structureIfs, structureDoWhi
 use Rattle.definition.specs.Passes.Passed.{done, tooDeep}
 use Rattle.definition.specs.Listing.{Listing, Outcome, refused8, afterLoops, afterIfs, structure, fitting, printed, checked, list, Lent, Result, refusal, success, resultOf, fits, result}
 use Rattle.definition.specs.Listing.Outcome.{refused, listed}
+use Rattle.definition.proofs.Bools.{is-false}
 
 -- the lines that lowering writes for a file
 abbrev pub lowered : Edition → List ℕ → List Line
@@ -29,6 +30,9 @@ lowered E f = lower (read E f) (offsets (read E f))
 abbrev pub isRefused : Outcome → Bool
 isRefused (refused n) = true
 isRefused (listed L) = false
+
+pub no-refusal {ℓ} : {C : Type ℓ} {n : ℕ} {L : Listing} → refused n ≡ listed L → C
+no-refusal e = absurd (true≢false (ap isRefused e))
 
 -- the conditions of 2 to 9, in order
 abbrev pub conditions : Edition → List ℕ → List Bool
@@ -102,7 +106,7 @@ list-is E f =
 module _ (L : Listing) where
   at-least : (n : ℕ) (bs : List Bool) (m : ℕ) → first n bs L ≡ refused m → n ≤ m
   unfolding first
-  at-least n [] m e = absurd (let z : _≡_ {A = Bool} true false = ap isRefused (sym e) in subst T z tt)
+  at-least n [] m e = no-refusal (sym e)
   at-least n (true ∷ bs) m e = let z : n ≡ m = ap number e in omega arith
   at-least n (false ∷ bs) m e = let z = at-least (suc n) bs m e in omega arith
 
@@ -110,7 +114,7 @@ module _ (L : Listing) where
   given : (n : ℕ) (bs : List Bool) (i : ℕ) → first n bs L ≡ refused (n + i)
       → (getD bs i false ≡ true) × ((j : ℕ) → j < i → getD bs j false ≡ false)
   unfolding first
-  given n [] i e = absurd (let z : _≡_ {A = Bool} true false = ap isRefused (sym e) in subst T z tt)
+  given n [] i e = no-refusal (sym e)
   given n (true ∷ bs) zero e = (refl, λ j h. absurd (omega arith))
   given n (true ∷ bs) (suc i) e = absurd (let z : n ≡ n + suc i = ap number e in omega arith)
   given n (false ∷ bs) zero e = absurd (let z = at-least (suc n) bs (n + zero) e in omega arith)
@@ -126,10 +130,10 @@ module _ (L : Listing) where
   -- and where its test holds and none before it, it is given
   gives : (n : ℕ) (bs : List Bool) (i : ℕ) → getD bs i false ≡ true → ((j : ℕ) → j < i → getD bs j false ≡ false) → first n bs L ≡ refused (n + i)
   unfolding first
-  gives n [] i h k = absurd (subst T (sym h) tt)
+  gives n [] i h k = absurd (false≢true h)
   gives n (true ∷ bs) zero h k = let p : n ≡ n + 0 = omega arith in ap refused p
-  gives n (true ∷ bs) (suc i) h k = absurd (subst T (k zero (omega arith)) tt)
-  gives n (false ∷ bs) zero h k = absurd (subst T (sym h) tt)
+  gives n (true ∷ bs) (suc i) h k = absurd (true≢false (k zero (omega arith)))
+  gives n (false ∷ bs) zero h k = absurd (false≢true h)
   gives n (false ∷ bs) (suc i) h k =
       let p : suc n + i ≡ n + suc i = omega arith in
       gives (suc n) bs i h (λ j l. k (suc j) (omega arith)) ∙ ap refused p
@@ -138,14 +142,14 @@ module _ (L : Listing) where
   lists : (n : ℕ) (bs : List Bool) (M : Listing) → first n bs L ≡ listed M → (i : ℕ) → getD bs i false ≡ false
   unfolding first
   lists n [] M e i = refl
-  lists n (true ∷ bs) M e i = absurd (let z : _≡_ {A = Bool} true false = ap isRefused e in subst T z tt)
+  lists n (true ∷ bs) M e i = no-refusal e
   lists n (false ∷ bs) M e zero = refl
   lists n (false ∷ bs) M e (suc i) = lists (suc n) bs M e i
 
   passed : (n : ℕ) (bs : List Bool) → ((i : ℕ) → getD bs i false ≡ false) → first n bs L ≡ listed L
   unfolding first
   passed n [] h = refl
-  passed n (true ∷ bs) h = absurd (subst T (h zero) tt)
+  passed n (true ∷ bs) h = absurd (true≢false (h zero))
   passed n (false ∷ bs) h = passed (suc n) bs (λ i. h (suc i))
 
   -- one of the two
@@ -200,7 +204,7 @@ module _ (E : Edition) (f : List ℕ) where
 
     pub one-when : result E B ready f .number ≡ 1 → (ready && fits E B) ≡ false
     unfolding result refusal success resultOf
-    one-when e = go (ready && fits E B) refl
+    one-when e = is-false (ready && fits E B) (λ p. other (list E f) one-of (sym (ap (λ (r : Result). r .number) (not-one p)) ∙ e))
       where
         other : (o : Outcome) → ((i : ℕ) × (i < 8) × (o ≡ refused (2 + i))) ⊎ ((L : Listing) × (o ≡ listed L)) → resultOf B o .number ≡ 1 → ⊥
         other o (inl r) q =
@@ -209,7 +213,3 @@ module _ (E : Edition) (f : List ℕ) where
         other o (inr r) q =
             let z : _≡_ {A = ℕ} 0 1 = sym (ap (λ (p : Outcome). resultOf B p .number) (r .1)) ∙ q in
             omega arith
-
-        go : (b : Bool) → (ready && fits E B) ≡ b → (ready && fits E B) ≡ false
-        go false p = p
-        go true p = absurd (other (list E f) one-of (sym (ap (λ (r : Result). r .number) (not-one p)) ∙ e))

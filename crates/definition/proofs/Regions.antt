@@ -1,6 +1,6 @@
 -- What a try that forms a region says of the lines around it, by induction on its scan; and that a step is a try at some line.
 use mathlib.Core.Path.{_≡_, refl, sym, ap, subst, subst₂, _∙_}
-use mathlib.Core.Bool.{Bool, true, false, _&&_, _||_}
+use mathlib.Core.Bool.{Bool, true, false, false≢true, _&&_, _||_}
 use mathlib.Core.Option.{Option, none, some, Option·some-injective}
 use mathlib.Core.List.{List, [], _∷_, _++_}
 use Prim.Native.Nat.{ℕ, suc}
@@ -12,13 +12,13 @@ use Rattle.definition.specs.Tokens.{Line}
 use Rattle.definition.specs.Sorts.{sort}
 use Rattle.definition.specs.Sorts.Sort.{label, condTo}
 use Rattle.definition.specs.Passes.{labelName, condName, named, backs, aimed, reached, stops, deep, Formed, unless, Cut, consCut, scanAt, scan, formIf, noLine, ifCut, ifAt, ifTry, Back, backAt, lastBack, formDo, doCut, doAt, doTry, firstFormed, ifStep, doStep}
-use Rattle.definition.proofs.Bools.{none-some, and-left, and-right, or-left-false}
-use Rattle.definition.proofs.ListLaws.{Each}
+use Rattle.definition.proofs.Bools.{none-some, both-true, both-false}
+use Rattle.definition.proofs.ListLaws.{Each, _▸_, end}
 use Rattle.definition.proofs.SortLaws.{is-some, label-sort, cond-sort}
 
 -- no line ends a scan at depth d
-abbrev pub Runs : ℕ → List Line → Type 0
-Runs d ls = Each (λ x. stops d x ≡ false) ls
+abbrev pub ScanPasses : ℕ → List Line → Type 0
+ScanPasses d ls = Each (λ x. stops d x ≡ false) ls
 
 -- a try: with a region formed at the line l, behind `pre` and before `xs`
 abbrev pub Try : Type 0
@@ -34,6 +34,16 @@ unfolding unless
 unless-some true mid out o e = none-some e
 unless-some false mid out o e = (refl, sym (Option·some-injective _ _ e))
 
+pub unless-test : (b : Bool) (mid out : List Line) → unless b mid out ≡ none → b ≡ true
+unfolding unless
+unless-test true mid out e = refl
+unless-test false mid out e = none-some (sym e)
+
+pub unless-none : (b : Bool) (mid out : List Line) → b ≡ true → unless b mid out ≡ none
+unfolding unless
+unless-none true mid out e = refl
+unless-none false mid out e = absurd (false≢true e)
+
 -- ---- structure_ifs: the scan to the label
 pub record Scanned (t : List ℕ) (d : ℕ) (xs : List Line) (c : Cut) : Type 0 where
   pub goal : Line
@@ -42,7 +52,7 @@ pub record Scanned (t : List ℕ) (d : ℕ) (xs : List Line) (c : Cut) : Type 0 
   pub post-is : c .post ≡ goal ∷ rest
   pub is-goal : named t goal ≡ true
   pub outside : suc (goal .indent) ≡ d
-  pub runs : Runs d (c .mid)
+  pub runs : ScanPasses d (c .mid)
 
 abbrev pub hits : List ℕ → ℕ → Line → Bool
 hits t d x = named t x && eqb (suc (x .indent)) d
@@ -58,9 +68,9 @@ scan-at t d x xs ih true eh s es r er c e =
       rest = xs;
       whole = refl;
       post-is = refl;
-      is-goal = and-left (named t x) (eqb (suc (x .indent)) d) eh;
-      outside = eqb-true _ _ (and-right (named t x) (eqb (suc (x .indent)) d) eh);
-      runs = tt;
+      is-goal = both-true (named t x) (eqb (suc (x .indent)) d) eh .0;
+      outside = eqb-true _ _ (both-true (named t x) (eqb (suc (x .indent)) d) eh .1);
+      runs = end;
     })
 scan-at t d x xs ih false eh true es r er c e = none-some e
 scan-at t d x xs ih false eh false es none er c e = none-some e
@@ -74,7 +84,7 @@ scan-at t d x xs ih false eh false es (some q) er c e =
       post-is = i .post-is;
       is-goal = i .is-goal;
       outside = i .outside;
-      runs = (es, i .runs);
+      runs = es ▸ i .runs;
     })
 
 pub scanned : (t : List ℕ) (d : ℕ) (xs : List Line) (c : Cut) → scan t d xs ≡ some c → Scanned t d xs c
@@ -87,7 +97,7 @@ pub record IfHere (t : List ℕ) (l : Line) (mid : List Line) (goal : Line) : Ty
   pub jump : sort l ≡ condTo t
   pub is-goal : named t goal ≡ true
   pub outside : suc (goal .indent) ≡ l .indent
-  pub runs : Runs (l .indent) mid
+  pub runs : ScanPasses (l .indent) mid
 
 module _ (pre : List Line) (l : Line) (xs : List Line) (o : Formed) (P : List Line → Formed → Type 0)
     (here : (t : List ℕ) (mid : List Line) (goal : Line) (rest : List Line) → IfHere t l mid goal → P (mid ++ goal ∷ rest) (formed mid (formIf pre l mid (goal ∷ rest)))) where
@@ -118,11 +128,11 @@ pub record Backed (t : List ℕ) (d : ℕ) (xs : List Line) (c : Back) : Type 0 
   pub whole : xs ≡ c .mid ++ c .back ∷ c .post
   pub is-back : sort (c .back) ≡ condTo t
   pub level : c .back .indent ≡ d
-  pub runs : Runs d (c .mid)
+  pub runs : ScanPasses d (c .mid)
 
 pub edge-sort : (t : List ℕ) (d : ℕ) (x : Line) → edge t d x ≡ true → sort x ≡ condTo t
 unfolding backs
-edge-sort t d x e = cond-sort (sort x) t (is-some t (condName (sort x)) (and-right (eqb (x .indent) d) (backs t x) e))
+edge-sort t d x e = cond-sort (sort x) t (is-some t (condName (sort x)) (both-true (eqb (x .indent) d) (backs t x) e .1))
 
 back-at : (t : List ℕ) (d : ℕ) (x : Line) (xs : List Line) → ((c : Back) → lastBack t d xs ≡ some c → Backed t d xs c)
     → (s : Bool) → stops d x ≡ s → (h : Bool) → edge t d x ≡ h → (r : Option Back) → lastBack t d xs ≡ r → (c : Back)
@@ -132,10 +142,10 @@ back-at t d x xs ih true es h eh r er c e = none-some e
 back-at t d x xs ih false es h eh (some q) er c e =
     let i = ih q er in
     subst (Backed t d (x ∷ xs)) (Option·some-injective _ _ e)
-    (record { whole = ap (λ (l : List Line). x ∷ l) (i .whole); is-back = i .is-back; level = i .level; runs = (es, i .runs) })
+    (record { whole = ap (λ (l : List Line). x ∷ l) (i .whole); is-back = i .is-back; level = i .level; runs = es ▸ i .runs })
 back-at t d x xs ih false es true eh none er c e =
     subst (Backed t d (x ∷ xs)) (Option·some-injective _ _ e)
-    (record { whole = refl; is-back = edge-sort t d x eh; level = eqb-true _ _ (and-left (eqb (x .indent) d) (backs t x) eh); runs = tt })
+    (record { whole = refl; is-back = edge-sort t d x eh; level = eqb-true _ _ (both-true (eqb (x .indent) d) (backs t x) eh .0); runs = end })
 back-at t d x xs ih false es false eh none er c e = none-some e
 
 pub backed : (t : List ℕ) (d : ℕ) (xs : List Line) (c : Back) → lastBack t d xs ≡ some c → Backed t d xs c
@@ -148,7 +158,7 @@ pub record DoHere (pre : List Line) (t : List ℕ) (l : Line) (mid : List Line) 
   pub head : sort l ≡ label t
   pub is-back : sort b ≡ condTo t
   pub level : b .indent ≡ suc (l .indent)
-  pub runs : Runs (suc (l .indent)) mid
+  pub runs : ScanPasses (suc (l .indent)) mid
   pub alone : aimed t (pre ++ l ∷ (mid ++ post)) ≡ false
 
 module _ (pre : List Line) (l : Line) (xs : List Line) (o : Formed) (P : List Line → Formed → Type 0)
@@ -162,7 +172,7 @@ module _ (pre : List Line) (l : Line) (xs : List Line) (o : Formed) (P : List Li
       let r : Bool = reached (pre ++ c .post) (c .mid) in
       let u = unless-some (a || r) (c .mid) (formDo pre l (c .mid) (c .back) (c .post)) o e in
       subst₂ P (sym (s .whole)) (sym (u .1))
-      (here t (c .mid) (c .back) (c .post) (record { head = label-sort (sort l) t el; is-back = s .is-back; level = s .level; runs = s .runs; alone = or-left-false a r (u .0) }))
+      (here t (c .mid) (c .back) (c .post) (record { head = label-sort (sort l) t el; is-back = s .is-back; level = s .level; runs = s .runs; alone = both-false a r (u .0) .0 }))
 
   do-at : (c : Option (List ℕ)) → labelName (sort l) ≡ c → doAt pre l xs c ≡ some o → P xs o
   unfolding doAt

@@ -1,11 +1,10 @@
 -- What `negate` makes of the text around a sign. Each sign is a word between two spaces, with a `<`, `=` or `>` in it; so in a text that has
 -- none of these but in the sign, no other sign stands, and flipping changes the sign and nothing else.
 use mathlib.Core.Path.{_≡_, refl, sym, ap, _∙_}
-use mathlib.Core.Bool.{Bool, true, false, _&&_, _||_, false≢true, and-false, or-false}
+use mathlib.Core.Bool.{Bool, true, false, _&&_, false≢true, and-false, or-false}
 use mathlib.Core.List.{List, [], _∷_, _++_, map, append-nil, append-assoc}
 use Prim.Native.Nat.{ℕ}
-use native.Mathlib.Decide.{ℕ-discrete}
-use borrow.Author.Tests.{eq-eqb, ne-eqb}
+use borrow.Author.Tests.{ne-eqb}
 use lib.Dec.{eqb, leb}
 use lib.Seq.{drop-append-seam}
 use Rattle.definition.specs.Texts.{txt, same, begins, contains, replace}
@@ -14,7 +13,8 @@ use Rattle.definition.specs.Condition.{Sign, signText}
 use Rattle.definition.specs.Condition.Sign.{equal, unequal, under, notUnder, over, notOver}
 use Rattle.definition.specs.Intel.{opposite}
 use Rattle.definition.specs.Negate.{Flip, flips, flipIn, compares}
-use Rattle.definition.proofs.Equal.{same-true}
+use Rattle.definition.proofs.Bools.{both-false, eqb-swap, by-test}
+use Rattle.definition.proofs.TextLaws.{same-eq, begins-self}
 
 -- ---- the table
 unfoldable pub signs : List Sign
@@ -74,19 +74,8 @@ word over = record { spaceless = refl; pointed = refl }
 word notOver = record { spaceless = refl; pointed = refl }
 
 -- ---- texts without a sign
-pub or-none : (p q : Bool) → (p || q) ≡ false → (p ≡ false) × (q ≡ false)
-or-none true q h = absurd (false≢true (sym h))
-or-none false q h = (refl, h)
-
 pub sharp-apart : (x y : ℕ) → sharp x ≡ true → sharp y ≡ false → x ≡ y → ⊥
 sharp-apart x y p q r = false≢true (sym q ∙ ap sharp (sym r) ∙ p)
-
-pub eqb-swap : (x y : ℕ) → eqb x y ≡ eqb y x
-eqb-swap x y = go (ℕ-discrete x y)
-  where
-    go : Dec (x ≡ y) → eqb x y ≡ eqb y x
-    go (yes q) = rw (eq-eqb x y q, eq-eqb y x (sym q))
-    go (no n) = rw (ne-eqb x y n, ne-eqb y x (λ q. n (sym q)))
 
 -- what follows a text: nothing, or a space
 abbrev Stops : List ℕ → Type 0
@@ -104,28 +93,19 @@ stops-space z c k h = rw (eqb-swap c 32, h)
 misses : (k r z : List ℕ) → any (eqb 32) k ≡ false → any sharp k ≡ true → Dull r → Stops z → begins (k ++ (32 ∷ [])) (r ++ z) ≡ false
 unfolding begins any
 misses [] r z n h d st = absurd (false≢true h)
-misses (a ∷ k) [] z n h d st = st a (k ++ (32 ∷ [])) (or-none (eqb 32 a) (any (eqb 32) k) n .0)
+misses (a ∷ k) [] z n h d st = st a (k ++ (32 ∷ [])) (both-false (eqb 32 a) (any (eqb 32) k) n .0)
 misses (a ∷ k) (b ∷ r) z n h d st =
-    let d₂ = or-none (sharp b) (any sharp r) d in
-    go (sharp a) refl (d₂ .0) (λ q. misses k r z (or-none (eqb 32 a) (any (eqb 32) k) n .1) q (d₂ .1) st)
-  where
-    go : (t : Bool) → sharp a ≡ t → sharp b ≡ false → (any sharp k ≡ true → begins (k ++ (32 ∷ [])) (r ++ z) ≡ false)
-        → (eqb a b && begins (k ++ (32 ∷ [])) (r ++ z)) ≡ false
-    go true q s ih = rw (ne-eqb a b (sharp-apart a b q s))
-    go false q s ih = rw (ih (rw q at h)) (and-false (eqb a b))
+    let d₂ = both-false (sharp b) (any sharp r) d in
+    let i : any sharp k ≡ true → begins (k ++ (32 ∷ [])) (r ++ z) ≡ false = λ q. misses k r z (both-false (eqb 32 a) (any (eqb 32) k) n .1) q (d₂ .1) st in
+    by-test (sharp a) (λ q. rw (ne-eqb a b (sharp-apart a b q (d₂ .0)))) (λ q. rw (i (rw q at h)) (and-false (eqb a b)))
 
 begins-word : (k m v : List ℕ) → any (eqb 32) k ≡ false → any (eqb 32) m ≡ false → begins (k ++ (32 ∷ [])) (m ++ (32 ∷ v)) ≡ same k m
 unfolding begins same any
 begins-word [] [] v p q = refl
-begins-word [] (b ∷ m) v p q = rw (or-none (eqb 32 b) (any (eqb 32) m) q .0)
-begins-word (a ∷ k) [] v p q = stops-space v a (k ++ (32 ∷ [])) (or-none (eqb 32 a) (any (eqb 32) k) p .0)
+begins-word [] (b ∷ m) v p q = rw (both-false (eqb 32 b) (any (eqb 32) m) q .0)
+begins-word (a ∷ k) [] v p q = stops-space v a (k ++ (32 ∷ [])) (both-false (eqb 32 a) (any (eqb 32) k) p .0)
 begins-word (a ∷ k) (b ∷ m) v p q =
-    ap (λ (t : Bool). eqb a b && t) (begins-word k m v (or-none (eqb 32 a) (any (eqb 32) k) p .1) (or-none (eqb 32 b) (any (eqb 32) m) q .1))
-
-begins-self : (w v : List ℕ) → begins w (w ++ v) ≡ true
-unfolding begins
-begins-self [] v = refl
-begins-self (b ∷ w) v = rw (eq-eqb b b refl, begins-self w v)
+    ap (λ (t : Bool). eqb a b && t) (begins-word k m v (both-false (eqb 32 a) (any (eqb 32) k) p .1) (both-false (eqb 32 b) (any (eqb 32) m) q .1))
 
 module _ (k : List ℕ) (W : Word k) where
   begins-dull : (v : List ℕ) → Dull v → begins (k ++ (32 ∷ [])) v ≡ false
@@ -135,7 +115,7 @@ module _ (k : List ℕ) (W : Word k) where
   unfolding contains begins any
   contains-dull [] d = refl
   contains-dull (b ∷ v) d =
-      let d₂ = or-none (sharp b) (any sharp v) d in
+      let d₂ = both-false (sharp b) (any sharp v) d in
       rw (begins-dull v (d₂ .1), and-false (eqb 32 b)) (contains-dull v (d₂ .1))
 
   -- behind the space of another word
@@ -143,14 +123,14 @@ module _ (k : List ℕ) (W : Word k) where
   unfolding contains begins any
   contains-word [] v n d = rw (begins-dull v d) (contains-dull v d)
   contains-word (b ∷ m) v n d =
-      let n₂ = or-none (eqb 32 b) (any (eqb 32) m) n in
+      let n₂ = both-false (eqb 32 b) (any (eqb 32) m) n in
       rw (n₂ .0) (contains-word m v (n₂ .1) d)
 
   contains-sign : (u m v : List ℕ) → Dull u → any (eqb 32) m ≡ false → Dull v → contains (spaced k) (u ++ (32 ∷ (m ++ (32 ∷ v)))) ≡ same k m
   unfolding contains begins any
   contains-sign [] m v du n dv = rw (begins-word k m v (W .spaceless) n, contains-word m v n dv) (or-false (same k m))
   contains-sign (b ∷ u) m v du n dv =
-      let d₂ = or-none (sharp b) (any sharp u) du in
+      let d₂ = both-false (sharp b) (any sharp u) du in
       rw (misses k u (32 ∷ (m ++ (32 ∷ v))) (W .spaceless) (W .pointed) (d₂ .1) (stops-space (m ++ (32 ∷ v))), and-false (eqb 32 b))
       (contains-sign u m v (d₂ .1) n dv)
 
@@ -158,7 +138,7 @@ module _ (k : List ℕ) (W : Word k) where
   unfolding replace begins any
   replace-sign [] v t d = rw (begins-self (k ++ (32 ∷ [])) v, drop-append-seam (k ++ (32 ∷ [])) v)
   replace-sign (b ∷ u) v t d =
-      let d₂ = or-none (sharp b) (any sharp u) d in
+      let d₂ = both-false (sharp b) (any sharp u) d in
       let z = (k ++ (32 ∷ [])) ++ v in
       rw (misses k u (32 ∷ z) (W .spaceless) (W .pointed) (d₂ .1) (stops-space z), and-false (eqb 32 b)) (ap (λ (s : List ℕ). b ∷ s) (replace-sign u v t (d₂ .1)))
 
@@ -171,7 +151,7 @@ module _ (u v : List ℕ) (du : Dull u) (dv : Dull v) (o : Sign) where
       (contains-sign (inner q) (word q) u (inner o) v du (word o .spaceless) dv)
 
   replace-around : (q : Sign) (t : List ℕ) → same (inner q) (inner o) ≡ true → replace (signText q) t (u ++ (signText o ++ v)) ≡ u ++ (t ++ v)
-  replace-around q t h = rw (sign-is q, sign-is o, ← same-true (inner q) (inner o) h) (replace-sign (inner q) (word q) u v t du)
+  replace-around q t h = rw (sign-is q, sign-is o, ← same-eq (inner q) (inner o) h) (replace-sign (inner q) (word q) u v t du)
 
   compares-around : (os : List Sign) → any (λ p. contains (p .from) (u ++ (signText o ++ v))) (map pair os) ≡ any (λ q. same (inner q) (inner o)) os
   unfolding any

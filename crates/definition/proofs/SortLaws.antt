@@ -8,7 +8,8 @@ use Rattle.definition.specs.Tokens.{Line}
 use Rattle.definition.specs.Sorts.{Sort, sort}
 use Rattle.definition.specs.Sorts.Sort.{label, condTo, jumpTo, plain, ifOpen, close, doOpen, whileClose}
 use Rattle.definition.specs.Passes.{labelName, condName, aimName, is, aims}
-use Rattle.definition.proofs.Bools.{none-some, same-eq, same-refl}
+use Rattle.definition.proofs.Bools.{none-some}
+use Rattle.definition.proofs.TextLaws.{same-eq, same-refl}
 
 pub is-some : (t : List ℕ) (o : Option (List ℕ)) → is t o ≡ true → o ≡ some t
 unfolding is

@@ -13,9 +13,10 @@ use Rattle.definition.specs.Sorts.{sort}
 use Rattle.definition.specs.Passes.{condName, deep, Formed, ifStep, doStep, conds, Passed, passN, structureIfs, structureDoWhile, dropUnusedLabels, formIf, formDo}
 use Rattle.definition.specs.Passes.Passed.{done, tooDeep}
 use Rattle.definition.specs.Listing.{Listing, afterLoops, afterIfs, structure}
-use Rattle.definition.specs.Listing.Outcome.{refused, listed}
+use Rattle.definition.specs.Listing.Outcome.{listed}
 use Rattle.definition.proofs.Bools.{by-test}
 use Rattle.definition.proofs.ListLaws.{count-length}
+use Rattle.definition.proofs.Refusals.{no-refusal}
 use Rattle.definition.proofs.Fits.{Fit, Fits, fit-at, fit-back, fits-if, fits-do}
 use Rattle.definition.proofs.Regions.{IfHere, if-step, DoHere, do-step}
 use Rattle.definition.proofs.Counts.{if-conds, do-conds}
@@ -169,9 +170,6 @@ pub record Run (low : List Line) (L : Listing) : Type 0 where
   pub do-steps : Steps doStep mid (L .loops) fin
   pub do-end : doStep fin ≡ none
   pub lines-are : L .lines ≡ dropUnusedLabels fin
-
-no-refusal {ℓ} : {C : Type ℓ} {n : ℕ} {L : Listing} → refused n ≡ listed L → C
-no-refusal e = absurd (let z : _≡_ {A = ℕ} 0 1 = cc in omega arith)
 
 listed-same : {M L : Listing} → listed M ≡ listed L → M ≡ L
 listed-same e = cc

@@ -10,9 +10,11 @@ use Rattle.definition.specs.Tokens.{Line}
 use Rattle.definition.specs.Passes.{named, aims, conds, dropUnusedLabels, formDo}
 use Rattle.definition.specs.Listing.{Listing, structure, tokenCount, byteCount}
 use Rattle.definition.specs.Listing.Outcome.{listed}
-use Rattle.definition.proofs.Bools.{same-eq, by-test}
+use Rattle.definition.proofs.Bools.{by-test}
+use Rattle.definition.proofs.TextLaws.{same-eq}
 use Rattle.definition.proofs.ListLaws.{bit, total-only, total-length}
-use Rattle.definition.proofs.Fits.{Fits, size}
+use Rattle.definition.proofs.Merge.{size}
+use Rattle.definition.proofs.Fits.{Fits}
 use Rattle.definition.proofs.Nest.{Nest, nest-if, nest-do}
 use Rattle.definition.proofs.Counts.{if-lines, if-tokens, if-bytes, if-conds, if-labels, if-aims, do-lines, do-tokens, do-bytes, do-conds, do-labels, do-aims, do-alone}
 use Rattle.definition.proofs.Body.{body, if-body, do-body}

@@ -15,21 +15,23 @@ use Rattle.definition.specs.Tokens.{Line}
 use Rattle.definition.specs.Sorts.{Sort, sort}
 use Rattle.definition.specs.Sorts.Sort.{label, doOpen, whileClose}
 use Rattle.definition.specs.Passes.{labelName, condName, is, named, aims, aimed, backs, reached, stops, Formed, Back, backAt, lastBack, doCut, doAt, doTry, doStep, structureDoWhile, raise, raised, doLine, whileLine, formDo}
-use Rattle.definition.proofs.Bools.{and-left, and-right, or-cases, or-left, or-right, is-false, by-test, same-eq, same-refl}
-use Rattle.definition.proofs.ListLaws.{Each, bit, count-cons, count-append, count-at, any-none, any-count, count-any}
+use Rattle.definition.proofs.Bools.{or-cases, or-left, or-right, is-false, by-test, both-true}
+use Rattle.definition.proofs.TextLaws.{same-eq, same-refl}
+use Rattle.definition.proofs.ListLaws.{Each, bit, count-cons, count-append, count-at, any-none, any-count, count-any, each-map, _▸_, end, each-to}
 use Rattle.definition.proofs.SortLaws.{label-sort, cond-aims}
-use Rattle.definition.proofs.Fits.{Fit, fit-back, fits-do, do-sort}
-use Rattle.definition.proofs.Counts.{do-lines, do-conds, do-labels, do-aims}
-use Rattle.definition.proofs.Regions.{Runs, edge, edge-sort, backed, DoHere, do-here}
+use Rattle.definition.proofs.TokenSorts.{do-sort}
+use Rattle.definition.proofs.Fits.{Fit, fit-back, fits-do}
+use Rattle.definition.proofs.Regions.{ScanPasses, edge, edge-sort, backed, DoHere, do-here, unless-test, unless-none}
 use Rattle.definition.proofs.Stops.{stops-not, stops-plain, label-runs, depth, shallower}
+use Rattle.definition.proofs.Counts.{do-lines, do-conds, do-labels, do-aims}
 use Rattle.definition.proofs.Plain.{Distinct, Good}
-use Rattle.definition.proofs.Reach.{Reach, reach-of, of-reach, unless-test, unless-none}
+use Rattle.definition.proofs.Reach.{Reach, reach-of, of-reach}
 use Rattle.definition.proofs.Sweep.{Goes, sweep, pass-is-sweep}
 
 no-edge : (t : List ℕ) (d : ℕ) (x : Line) (s : Sort) → sort x ≡ s → condName s ≡ none → edge t d x ≡ false
 unfolding backs is
 no-edge t d x s e n =
-    is-false (edge t d x) (λ h. true≢false (sym (and-right (eqb (x .indent) d) (backs t x) h) ∙ ap (λ (s : Sort). is t (condName s)) e ∙ ap (is t) n))
+    is-false (edge t d x) (λ h. true≢false (sym (both-true (eqb (x .indent) d) (backs t x) h .1) ∙ ap (λ (s : Sort). is t (condName s)) e ∙ ap (is t) n))
 
 -- ---- runs of lines that the search for the last back edge passes: with no edge, and with any
 abbrev Idle : List ℕ → ℕ → List Line → Type 0
@@ -51,14 +53,14 @@ add-cons x xs zs (some c) = refl
 idle-back : (t : List ℕ) (d : ℕ) (xs zs : List Line) → Idle t d xs → lastBack t d (xs ++ zs) ≡ addBack xs (lastBack t d zs)
 unfolding lastBack
 idle-back t d [] zs h = add-nil (lastBack t d zs)
-idle-back t d (x ∷ xs) zs h =
-    ap₂ (λ (a b : Bool). backAt a b x (xs ++ zs) (lastBack t d (xs ++ zs))) (h .0 .0) (h .0 .1)
-    ∙ ap (backAt false false x (xs ++ zs)) (idle-back t d xs zs (h .1)) ∙ add-cons x xs (xs ++ zs) (lastBack t d zs)
+idle-back t d (x ∷ xs) zs (c ▸ h) =
+    ap₂ (λ (a b : Bool). backAt a b x (xs ++ zs) (lastBack t d (xs ++ zs))) (c .0) (c .1)
+    ∙ ap (backAt false false x (xs ++ zs)) (idle-back t d xs zs h) ∙ add-cons x xs (xs ++ zs) (lastBack t d zs)
 
-runs-back : (t : List ℕ) (d : ℕ) (xs zs : List Line) (c : Back) → Runs d xs → lastBack t d zs ≡ some c → lastBack t d (xs ++ zs) ≡ addBack xs (some c)
+runs-back : (t : List ℕ) (d : ℕ) (xs zs : List Line) (c : Back) → ScanPasses d xs → lastBack t d zs ≡ some c → lastBack t d (xs ++ zs) ≡ addBack xs (some c)
 unfolding lastBack backAt
 runs-back t d [] zs c h e = e
-runs-back t d (x ∷ xs) zs c h e = ap₂ (λ (a : Bool) (r : Option Back). backAt a (edge t d x) x (xs ++ zs) r) (h .0) (runs-back t d xs zs c (h .1) e)
+runs-back t d (x ∷ xs) zs c (k ▸ h) e = ap₂ (λ (a : Bool) (r : Option Back). backAt a (edge t d x) x (xs ++ zs) r) k (runs-back t d xs zs c h e)
 
 -- a back edge is a goto
 back-aims : (t : List ℕ) (d : ℕ) (zs : List Line) (c : Back) → lastBack t d zs ≡ some c → 0 < count (aims t) zs
@@ -99,20 +101,16 @@ module _ (pre : List Line) (l : Line) (mid : List Line) (b : Line) (post : List 
   nowhere = omega (arith, any-none (aims t) (pre ++ l ∷ (mid ++ post)) (i .alone), count-at (aims t) pre l (mid ++ post), count-append (aims t) mid post)
 
   module _ (t₀ : List ℕ) (d₀ : ℕ) (ne : same t t₀ ≡ false) where
-    -- a search from further out passes the raised body and sees no edge there; it passes the body
-    idle-raised : (xs : List Line) → Runs d xs → d₀ ≤ d → Idle t₀ d₀ (raised xs)
+    -- a search from further out passes the raised body and sees no edge there
+    idle-raised : (xs : List Line) → ScanPasses d xs → d₀ ≤ d → Idle t₀ d₀ (raised xs)
     unfolding labelName has
-    idle-raised [] h w = tt
-    idle-raised (x ∷ xs) h w =
+    idle-raised xs h w =
+        each-map raise (λ x k.
         let deeper : edge t₀ d₀ (raise x) ≡ true → ⊥ =
         λ e.
-        let n : d ≤ x .indent = ltb-false (x .indent) d (sym (stops-plain d x (ap (λ (s : Sort). has (labelName s)) (edge-sort t₀ d₀ (raise x) e))) ∙ h .0) in
-        omega (arith, eqb-true (suc (x .indent)) d₀ (and-left (eqb (suc (x .indent)) d₀) (backs t₀ (raise x)) e)) in
-        ((stops-not d₀ (raise x) (omega (arith, depth d x (h .0))), is-false (edge t₀ d₀ (raise x)) deeper), idle-raised xs (h .1) w)
-
-    runs-body : (xs : List Line) → Runs d xs → d₀ ≤ d → Runs d₀ xs
-    runs-body [] h w = tt
-    runs-body (x ∷ xs) h w = (shallower d₀ d x w (h .0), runs-body xs (h .1) w)
+        let n : d ≤ x .indent = ltb-false (x .indent) d (sym (stops-plain d x (ap (λ (s : Sort). has (labelName s)) (edge-sort t₀ d₀ (raise x) e))) ∙ k) in
+        omega (arith, eqb-true (suc (x .indent)) d₀ (both-true (eqb (suc (x .indent)) d₀) (backs t₀ (raise x)) e .0)) in
+        (stops-not d₀ (raise x) (omega (arith, depth d x k)), is-false (edge t₀ d₀ (raise x)) deeper)) h
 
     abbrev around : Option Back → Option Back
     around r = addBack (doLine l ∷ raised mid) (addBack (whileLine d b ∷ []) r)
@@ -121,21 +119,21 @@ module _ (pre : List Line) (l : Line) (mid : List Line) (b : Line) (post : List 
     unfolding condName
     new-back w =
         idle-back t₀ d₀ (doLine l ∷ raised mid) (whileLine d b ∷ post)
-        ((stops-not d₀ (doLine l) w, no-edge t₀ d₀ (doLine l) doOpen do-sort refl), idle-raised mid (i .runs) w)
+        ((stops-not d₀ (doLine l) w, no-edge t₀ d₀ (doLine l) doOpen do-sort refl) ▸ idle-raised mid (i .runs) w)
         ∙ ap (addBack (doLine l ∷ raised mid)) (idle-back t₀ d₀ (whileLine d b ∷ []) post
-        ((stops-not d₀ (whileLine d b) w, no-edge t₀ d₀ (whileLine d b) whileClose (f .while-sort) refl), tt))
+        ((stops-not d₀ (whileLine d b) w, no-edge t₀ d₀ (whileLine d b) whileClose (f .while-sort) refl) ▸ end))
 
     old-back : (q : Back) → d₀ ≤ d → lastBack t₀ d₀ post ≡ some q → lastBack t₀ d₀ old ≡ addBack (l ∷ mid) (addBack (b ∷ []) (some q))
     unfolding labelName has
     old-back q w e =
         let b-runs : stops d₀ b ≡ false = stops-not d₀ b (omega (arith, i .level)) in
         runs-back t₀ d₀ (l ∷ mid) (b ∷ post) (record { mid = b ∷ q .mid; back = q .back; post = q .post })
-        (shallower d₀ d l w (label-runs l (ap (λ (s : Sort). has (labelName s)) (i .head))), runs-body mid (i .runs) w)
-        (runs-back t₀ d₀ (b ∷ []) post q (b-runs, tt) e)
+        (shallower d₀ d l w (label-runs l (ap (λ (s : Sort). has (labelName s)) (i .head))) ▸ each-to (λ x. shallower d₀ d x w) (i .runs))
+        (runs-back t₀ d₀ (b ∷ []) post q (b-runs ▸ end) e)
 
     -- the two searches: the new one fails; or it finds an edge beside another goto to t₀; or both find one
     -- and then, but for t, the labels and gotos passed, and the gotos behind, are the same
-    record Both (o n : Option Back) : Type 0 where
+    record TwoBacks (o n : Option Back) : Type 0 where
       c : Back
       c′ : Back
       old-is : o ≡ some c
@@ -145,12 +143,12 @@ module _ (pre : List Line) (l : Line) (mid : List Line) (b : Line) (post : List 
       gotos : (u : List ℕ) → same t u ≡ false → count (aims u) (c .post) ≡ count (aims u) (c′ .post)
       off : (0 < count (named t) (c .post)) ⊎ (count (aims t) (c .post) ≡ 0)
 
-    data After (o n : Option Back) : Type 0 where
-      gone : n ≡ none → After o n
-      other : (c′ : Back) → n ≡ some c′ → 0 < count (aims t₀) (c′ .mid) + count (aims t₀) (c′ .post) → After o n
-      both : Both o n → After o n
+    data AfterDo (o n : Option Back) : Type 0 where
+      gone : n ≡ none → AfterDo o n
+      other : (c′ : Back) → n ≡ some c′ → 0 < count (aims t₀) (c′ .mid) + count (aims t₀) (c′ .post) → AfterDo o n
+      both : TwoBacks o n → AfterDo o n
 
-    at-loop : (s : Bool) → ltb d d₀ ≡ s → (r : Option Back) → lastBack t₀ d₀ post ≡ r → After (lastBack t₀ d₀ old) (lastBack t₀ d₀ new)
+    at-loop : (s : Bool) → ltb d d₀ ≡ s → (r : Option Back) → lastBack t₀ d₀ post ≡ r → AfterDo (lastBack t₀ d₀ old) (lastBack t₀ d₀ new)
     unfolding lastBack backAt labelName has
     at-loop true e r er =
         let tail : List Line = raised mid ++ whileLine d b ∷ post in
@@ -171,8 +169,8 @@ module _ (pre : List Line) (l : Line) (mid : List Line) (b : Line) (post : List 
           off = inr (omega (arith, nowhere, ap (count (aims t)) (s .whole), count-at (aims t) (q .mid) (q .back) (q .post)));
         })
 
-    pass-line : (x : Line) (xs : List Line) (s h : Bool) (o n : Option Back) → lastBack t₀ d₀ (xs ++ old) ≡ o → After o n
-        → After (backAt s h x (xs ++ old) o) (backAt s h x (xs ++ new) n)
+    pass-line : (x : Line) (xs : List Line) (s h : Bool) (o n : Option Back) → lastBack t₀ d₀ (xs ++ old) ≡ o → AfterDo o n
+        → AfterDo (backAt s h x (xs ++ old) o) (backAt s h x (xs ++ new) n)
     unfolding backAt
     pass-line x xs true h o n eo r = gone refl
     pass-line x xs false false o n eo (gone e) = gone (ap (backAt false false x (xs ++ new)) e)
@@ -205,7 +203,7 @@ module _ (pre : List Line) (l : Line) (mid : List Line) (b : Line) (post : List 
           off = k .off;
         })
 
-    searches : (xs : List Line) → After (lastBack t₀ d₀ (xs ++ old)) (lastBack t₀ d₀ (xs ++ new))
+    searches : (xs : List Line) → AfterDo (lastBack t₀ d₀ (xs ++ old)) (lastBack t₀ d₀ (xs ++ new))
     unfolding lastBack
     searches [] = at-loop (ltb d d₀) refl (lastBack t₀ d₀ post) refl
     searches (x ∷ xs) = pass-line x xs (stops d₀ x) (edge t₀ d₀ x) (lastBack t₀ d₀ (xs ++ old)) (lastBack t₀ d₀ (xs ++ new)) refl (searches xs)
@@ -242,7 +240,7 @@ module _ (pre : List Line) (l : Line) (mid : List Line) (b : Line) (post : List 
       other-cut c w =
           or-left (aimed t₀ (without c)) (reached (pre₀ ++ c .post) (c .mid)) (count-any (aims t₀) (without c) (omega (arith, aims-all c t₀)))
 
-      module _ (o n : Option Back) (eo : lastBack t₀ (suc (l₀ .indent)) (xs ++ old) ≡ o) (k : Both t₀ (suc (l₀ .indent)) apart o n) where
+      module _ (o n : Option Back) (eo : lastBack t₀ (suc (l₀ .indent)) (xs ++ old) ≡ o) (k : TwoBacks t₀ (suc (l₀ .indent)) apart o n) where
         -- a label t passed is not reached: it stands once, and no goto but the loop's own names it
         not-head : 0 < count (named t) (k .c .mid) → 0 < count (aims t) (pre₀ ++ k .c .post) → ⊥
         not-head a w =
@@ -284,7 +282,7 @@ module _ (pre : List Line) (l : Line) (mid : List Line) (b : Line) (post : List 
       unfolding doCut
       cut-test r c e h = unless-test (test c) (c .mid) (formDo pre₀ l₀ (c .mid) (c .back) (c .post)) (sym (ap (doCut pre₀ l₀ t₀) e) ∙ h)
 
-      dead-cut : (o n : Option Back) → lastBack t₀ (suc (l₀ .indent)) (xs ++ old) ≡ o → After t₀ (suc (l₀ .indent)) apart o n
+      dead-cut : (o n : Option Back) → lastBack t₀ (suc (l₀ .indent)) (xs ++ old) ≡ o → AfterDo t₀ (suc (l₀ .indent)) apart o n
           → doCut pre₀ l₀ t₀ o ≡ none → doCut pre₀ l₀ t₀ n ≡ none
       unfolding doCut
       dead-cut o n eo (gone z) e = ap (doCut pre₀ l₀ t₀) z

@@ -14,15 +14,16 @@ use Rattle.definition.specs.Tokens.{Line}
 use Rattle.definition.specs.Sorts.{Sort, sort}
 use Rattle.definition.specs.Sorts.Sort.{condTo}
 use Rattle.definition.specs.Passes.{labelName, condName, is, named, aims, reached, stops, noLine, Formed, Cut, consCut, scanAt, scan, ifCut, ifAt, ifTry, ifStep, structureIfs, raise, raised, opened, closer, formIf}
-use Rattle.definition.proofs.Bools.{and-right, or-cases, or-left, or-right, is-false, by-test, same-eq, same-refl}
-use Rattle.definition.proofs.ListLaws.{Each, bit, count-cons, count-append, count-at}
+use Rattle.definition.proofs.Bools.{or-cases, or-left, or-right, is-false, by-test, both-true}
+use Rattle.definition.proofs.TextLaws.{same-eq, same-refl}
+use Rattle.definition.proofs.ListLaws.{Each, bit, count-cons, count-append, count-at, each-map, _▸_, end}
 use Rattle.definition.proofs.SortLaws.{cond-sort, cond-aims}
 use Rattle.definition.proofs.Fits.{Fit, fit-at, fits-if}
-use Rattle.definition.proofs.Counts.{if-lines, if-conds, if-labels, if-aims}
-use Rattle.definition.proofs.Regions.{Runs, hits, scanned, IfHere, if-here}
+use Rattle.definition.proofs.Regions.{ScanPasses, hits, scanned, IfHere, if-here, unless-test, unless-none}
 use Rattle.definition.proofs.Stops.{stops-not, stops-plain, depth, shallower}
+use Rattle.definition.proofs.Counts.{if-lines, if-conds, if-labels, if-aims}
 use Rattle.definition.proofs.Plain.{Distinct, Good}
-use Rattle.definition.proofs.Reach.{Reach, reach-of, of-reach, unless-test, unless-none}
+use Rattle.definition.proofs.Reach.{Reach, reach-of, of-reach}
 use Rattle.definition.proofs.Sweep.{Goes, sweep, pass-is-sweep}
 
 -- ---- a run of lines that a scan passes
@@ -45,9 +46,9 @@ add-cons x xs (some c) = refl
 scan-clear : (t : List ℕ) (d : ℕ) (xs zs : List Line) → Clear t d xs → scan t d (xs ++ zs) ≡ addCut xs (scan t d zs)
 unfolding scan scanAt
 scan-clear t d [] zs h = add-nil (scan t d zs)
-scan-clear t d (x ∷ xs) zs h =
-    ap₂ (λ (a b : Bool). scanAt a b x (xs ++ zs) (scan t d (xs ++ zs))) (h .0 .0) (h .0 .1)
-    ∙ ap (consCut x) (scan-clear t d xs zs (h .1)) ∙ add-cons x xs (scan t d zs)
+scan-clear t d (x ∷ xs) zs (c ▸ h) =
+    ap₂ (λ (a b : Bool). scanAt a b x (xs ++ zs) (scan t d (xs ++ zs))) (c .0) (c .1)
+    ∙ ap (consCut x) (scan-clear t d xs zs h) ∙ add-cons x xs (scan t d zs)
 
 -- what a scan finds is a label
 scan-label : (t : List ℕ) (d : ℕ) (zs : List Line) (c : Cut) → scan t d zs ≡ some c → 0 < count (named t) zs
@@ -78,23 +79,20 @@ module _ (l : Line) (mid : List Line) (goal : Line) (rest : List Line) (t : List
     no-hit x e = ap (λ (b : Bool). b && eqb (suc (x .indent)) d₀) e
 
     too-deep : (x : Line) → d₀ ≤ x .indent → hits t₀ d₀ x ≡ false
-    too-deep x w = is-false _ (λ h. omega (arith, eqb-true (suc (x .indent)) d₀ (and-right (named t₀ x) (eqb (suc (x .indent)) d₀) h)))
+    too-deep x w = is-false _ (λ h. omega (arith, eqb-true (suc (x .indent)) d₀ (both-true (named t₀ x) (eqb (suc (x .indent)) d₀) h .1)))
 
     -- a scan from further out passes the raised body, and the body where it has no such label
-    clear-raised : (xs : List Line) → Runs (l .indent) xs → d₀ ≤ l .indent → Clear t₀ d₀ (raised xs)
-    clear-raised [] h w = tt
-    clear-raised (x ∷ xs) h w =
-        let v : d₀ ≤ suc (x .indent) = omega (arith, depth (l .indent) x (h .0)) in
-        ((too-deep (raise x) v, stops-not d₀ (raise x) v), clear-raised xs (h .1) w)
+    clear-raised : (xs : List Line) → ScanPasses (l .indent) xs → d₀ ≤ l .indent → Clear t₀ d₀ (raised xs)
+    clear-raised xs h w = each-map raise (λ x k. let v : d₀ ≤ suc (x .indent) = omega (arith, depth (l .indent) x k) in (too-deep (raise x) v, stops-not d₀ (raise x) v)) h
 
-    clear-body : (xs : List Line) → Runs (l .indent) xs → d₀ ≤ l .indent → count (named t₀) xs ≡ 0 → Clear t₀ d₀ xs
-    clear-body [] h w z = tt
-    clear-body (x ∷ xs) h w z =
+    clear-body : (xs : List Line) → ScanPasses (l .indent) xs → d₀ ≤ l .indent → count (named t₀) xs ≡ 0 → Clear t₀ d₀ xs
+    clear-body [] h w z = end
+    clear-body (x ∷ xs) (k ▸ h) w z =
         let c = count-cons (named t₀) x xs in
-        ((no-hit x (is-false (named t₀ x) (λ e. omega (arith, ap bit e))), shallower d₀ (l .indent) x w (h .0)), clear-body xs (h .1) w (omega arith))
+        (no-hit x (is-false (named t₀ x) (λ e. omega (arith, ap bit e))), shallower d₀ (l .indent) x w k) ▸ clear-body xs h w (omega arith)
 
     -- the two scans: the new one fails; or both find a label, with the same labels passed, and every goto behind but one to t
-    record Both (o n : Option Cut) : Type 0 where
+    record TwoCuts (o n : Option Cut) : Type 0 where
       c : Cut
       c′ : Cut
       old-is : o ≡ some c
@@ -103,8 +101,8 @@ module _ (l : Line) (mid : List Line) (goal : Line) (rest : List Line) (t : List
       labels : (u : List ℕ) → count (named u) (c .mid) ≡ count (named u) (c′ .mid)
       gotos : (u : List ℕ) → (count (aims u) (c .post) ≤ count (aims u) (c′ .post)) ⊎ ((u ≡ t) × (0 < count (named t) (c .post)))
 
-    abbrev After : Option Cut → Option Cut → Type 0
-    After o n = (n ≡ none) ⊎ Both o n
+    abbrev AfterIf : Option Cut → Option Cut → Type 0
+    AfterIf o n = (n ≡ none) ⊎ TwoCuts o n
 
     abbrev around : Option Cut → Option Cut
     around r = addCut (opened l ∷ raised mid) (addCut (closer (l .indent) ∷ []) r)
@@ -112,14 +110,14 @@ module _ (l : Line) (mid : List Line) (goal : Line) (rest : List Line) (t : List
     new-scan : d₀ ≤ l .indent → scan t₀ d₀ new ≡ around (scan t₀ d₀ (goal ∷ rest))
     new-scan w =
         scan-clear t₀ d₀ (opened l ∷ raised mid) (closer (l .indent) ∷ goal ∷ rest)
-        ((too-deep (opened l) w, stops-not d₀ (opened l) w), clear-raised mid (i .runs) w)
+        ((too-deep (opened l) w, stops-not d₀ (opened l) w) ▸ clear-raised mid (i .runs) w)
         ∙ ap (addCut (opened l ∷ raised mid)) (scan-clear t₀ d₀ (closer (l .indent) ∷ []) (goal ∷ rest)
-        ((too-deep (closer (l .indent)) w, stops-not d₀ (closer (l .indent)) w), tt))
+        ((too-deep (closer (l .indent)) w, stops-not d₀ (closer (l .indent)) w) ▸ end))
 
     old-scan : d₀ ≤ l .indent → count (named t₀) mid ≡ 0 → scan t₀ d₀ old ≡ addCut (l ∷ mid) (scan t₀ d₀ (goal ∷ rest))
-    old-scan w z = scan-clear t₀ d₀ (l ∷ mid) (goal ∷ rest) ((too-deep l w, stops-not d₀ l w), clear-body mid (i .runs) w z)
+    old-scan w z = scan-clear t₀ d₀ (l ∷ mid) (goal ∷ rest) ((too-deep l w, stops-not d₀ l w) ▸ clear-body mid (i .runs) w z)
 
-    at-region : (b : Bool) → ltb (l .indent) d₀ ≡ b → (r : Option Cut) → scan t₀ d₀ (goal ∷ rest) ≡ r → After (scan t₀ d₀ old) (scan t₀ d₀ new)
+    at-region : (b : Bool) → ltb (l .indent) d₀ ≡ b → (r : Option Cut) → scan t₀ d₀ (goal ∷ rest) ≡ r → AfterIf (scan t₀ d₀ old) (scan t₀ d₀ new)
     unfolding scan scanAt labelName named is has noLine
     at-region true e r er =
         let tail : List Line = raised mid ++ closer (l .indent) ∷ goal ∷ rest in
@@ -140,7 +138,7 @@ module _ (l : Line) (mid : List Line) (goal : Line) (rest : List Line) (t : List
           gotos = λ u. inl (omega arith);
         })
 
-    pass-line : (x : Line) (xs : List Line) (a b : Bool) (o n : Option Cut) → After o n → After (scanAt a b x (xs ++ old) o) (scanAt a b x (xs ++ new) n)
+    pass-line : (x : Line) (xs : List Line) (a b : Bool) (o n : Option Cut) → AfterIf o n → AfterIf (scanAt a b x (xs ++ old) o) (scanAt a b x (xs ++ new) n)
     unfolding scanAt consCut noLine
     pass-line x xs true b o n r =
         inr (record {
@@ -165,7 +163,7 @@ module _ (l : Line) (mid : List Line) (goal : Line) (rest : List Line) (t : List
           gotos = k .gotos;
         })
 
-    scans : (xs : List Line) → After (scan t₀ d₀ (xs ++ old)) (scan t₀ d₀ (xs ++ new))
+    scans : (xs : List Line) → AfterIf (scan t₀ d₀ (xs ++ old)) (scan t₀ d₀ (xs ++ new))
     unfolding scan
     scans [] = at-region (ltb (l .indent) d₀) refl (scan t₀ d₀ (goal ∷ rest)) refl
     scans (x ∷ xs) = pass-line x xs (hits t₀ d₀ x) (stops d₀ x) (scan t₀ d₀ (xs ++ old)) (scan t₀ d₀ (xs ++ new)) (scans xs)
@@ -196,7 +194,7 @@ module _ (l : Line) (mid : List Line) (goal : Line) (rest : List Line) (t : List
       abbrev test : Cut → Bool
       test c = noLine (c .mid) || reached (pre₀ ++ l₀ ∷ c .post) (c .mid)
 
-      module _ (o n : Option Cut) (eo : scan t₀ (l₀ .indent) (xs ++ old) ≡ o) (k : Both t₀ (l₀ .indent) once o n) where
+      module _ (o n : Option Cut) (eo : scan t₀ (l₀ .indent) (xs ++ old) ≡ o) (k : TwoCuts t₀ (l₀ .indent) once o n) where
         -- a label that the scan passed is not t where t stands behind it
         not-goal : (u : List ℕ) → (u ≡ t) × (0 < count (named t) (k .c .post)) → 0 < count (named u) (k .c .mid) → ⊥
         not-goal u p a =
@@ -236,7 +234,7 @@ module _ (l : Line) (mid : List Line) (goal : Line) (rest : List Line) (t : List
       unfolding ifCut
       cut-test r c e h = unless-test (test c) (c .mid) (formIf pre₀ l₀ (c .mid) (c .post)) (sym (ap (ifCut pre₀ l₀) e) ∙ h)
 
-      dead-cut : (o n : Option Cut) → scan t₀ (l₀ .indent) (xs ++ old) ≡ o → After t₀ (l₀ .indent) once o n → ifCut pre₀ l₀ o ≡ none → ifCut pre₀ l₀ n ≡ none
+      dead-cut : (o n : Option Cut) → scan t₀ (l₀ .indent) (xs ++ old) ≡ o → AfterIf t₀ (l₀ .indent) once o n → ifCut pre₀ l₀ o ≡ none → ifCut pre₀ l₀ n ≡ none
       unfolding ifCut
       dead-cut o n eo (inl z) e = ap (ifCut pre₀ l₀) z
       dead-cut o n eo (inr k) e = cut-none n (k .c′) (k .new-is) (both-cut o n eo k (cut-test o (k .c) (k .old-is) e))

@@ -1,9 +1,9 @@
 -- What `negate` does to a comparison of calm tokens: it flips the comparison's own sign, or wraps the whole. The sign's token, merged, is the only
 -- one that `negate` can mark, since the tokens around it are quiet; it is marked unless a parenthesis opens beside the sign.
 use mathlib.Core.Path.{_≡_, refl, sym, ap, ap₂, subst⁻¹, _∙_}
-use mathlib.Core.Bool.{Bool, true, false, not, cond, _&&_, _||_}
+use mathlib.Core.Bool.{Bool, true, false, not, cond, _&&_}
 use mathlib.Core.List.{List, [], _∷_, _++_, append-nil}
-use Prim.Native.Nat.{ℕ, suc, _+_}
+use Prim.Native.Nat.{ℕ, _+_}
 use native.Mathlib.Omega.{arith}
 use borrow.Author.Tests.{eq-eqb, ne-eqb, eqb-true, eqb-false}
 use lib.Dec.{eqb}
@@ -15,30 +15,20 @@ use Rattle.definition.specs.Condition.Sign.{equal, unequal, under, notUn
 use Rattle.definition.specs.Condition.Side.{left, right, difference, both, nought}
 use Rattle.definition.specs.Intel.{opposite, flipped}
 use Rattle.definition.specs.Negate.{compares, comparisons, flipAt, flippable, negate}
+use Rattle.definition.proofs.Bools.{by-test}
+use Rattle.definition.proofs.ListLaws.{count-append}
+use Rattle.definition.proofs.Merge.{text-merge}
+use Rattle.definition.proofs.NegateGrowth.{wrap}
 use Rattle.definition.proofs.Signs.{sharp, Dull, compares-own, flip-own}
 use Rattle.definition.proofs.Calm.{Depth, cold, hot, lost, cool, byte, bytes, pass, walk, Calm, Live, depth, live-bytes, live-walk, dull-outside, counted, nothing, Quiet, quiet}
 use Rattle.definition.proofs.Operands.{word-calm, pair-calm}
-use Rattle.definition.proofs.Merging.{before, lead, rest, merge-around, text-merge, walk-before, walk-behind}
-
--- all of it between `!(` and `)`
-unfoldable pub wrap : List Token → List Token
-wrap c = punct (txt "!(") ∷ (c ++ (punct (txt ")") ∷ []))
+use Rattle.definition.proofs.Neighbours.{before, lead, rest, merge-around, walk-before, walk-behind}
 
 -- no parenthesis stays open in the Punct that these tokens, merged, begin with
 unfoldable pub shut : List Token → Bool
 shut R = eqb (count (eqb 40) (lead (merge R))) (count (eqb 41) (lead (merge R)))
 
 -- ---- counts and marks over lists
-count-append : (p : ℕ → Bool) (s t : List ℕ) → count p (s ++ t) ≡ count p s + count p t
-unfolding count
-count-append p [] t = omega arith
-count-append p (b ∷ s) t = go (p b) (count-append p s t)
-  where
-    go : (x : Bool) → count p (s ++ t) ≡ count p s + count p t
-        → cond x (suc (count p (s ++ t))) (count p (s ++ t)) ≡ cond x (suc (count p s)) (count p s) + count p t
-    go true h = omega arith
-    go false h = h
-
 count-skip : (A : List Token) (bs : List Bool) → count (λ b. b) (nothing A ++ bs) ≡ count (λ b. b) bs
 unfolding count nothing
 count-skip [] bs = refl
@@ -93,15 +83,12 @@ module _ (A : List Token) (u v : List ℕ) (B : List Token) (eu : bytes (walk (c
     text = u ++ (signText o ++ v)
 
     mark : (n m : ℕ) → n ≡ m + depth (bytes (cold 0) v) → (eqb n m && compares text) ≡ flat
-    mark n m h = go flat refl
-      where
-        go : (b : Bool) → flat ≡ b → (eqb n m && compares text) ≡ flat
-        go true f =
-            let q = eqb-true (count (eqb 40) v) (count (eqb 41) v) f in
-            rw (f, eq-eqb n m (omega (arith, level 0 0 refl)), compares-own o u v (dull-outside (walk (cold 0) A) u eu) (flat-dull f))
-        go false f =
-            let q = eqb-false (count (eqb 40) v) (count (eqb 41) v) f in
-            rw (f, ne-eqb n m (λ e. q (omega (arith, level 0 0 refl))))
+    mark n m h =
+        by-test flat
+        (λ f.
+        let q = eqb-true (count (eqb 40) v) (count (eqb 41) v) f in
+        rw (f, eq-eqb n m (omega (arith, level 0 0 refl)), compares-own o u v (dull-outside (walk (cold 0) A) u eu) (flat-dull f)))
+        (λ f. let q = eqb-false (count (eqb 40) v) (count (eqb 41) v) f in rw (f, ne-eqb n m (λ e. q (omega (arith, level 0 0 refl)))))
 
     text-level : (n m : ℕ) → n ≡ m + depth (walk (cold 0) A) → n + count (eqb 40) text ≡ m + count (eqb 41) text + depth (bytes (cold 0) v)
     unfolding depth
@@ -167,14 +154,10 @@ module _ (L R : List Token) (l : walk (cold 0) L ≡ cold 0) (r : walk (cold 0) 
       ∙ sym (merge-around L R (signText (opposite o)))
 
   sign-negated : negate (merge (compared o)) ≡ cond (flippable (merge (compared o))) (merge (compared (opposite o))) (wrap (merge (compared o)))
-  unfolding negate wrap
-  sign-negated = go (shut R) refl
-    where
-      go : (b : Bool) → shut R ≡ b → negate (merge (compared o)) ≡ cond (flippable (merge (compared o))) (merge (compared (opposite o))) (wrap (merge (compared o)))
-      go true f = ap (λ (ts : List Token). cond (flippable (merge (compared o))) ts (wrap (merge (compared o)))) (sign-flipped f)
-      go false f =
-          let n : flippable (merge (compared o)) ≡ false = rw (sign-flippable, f) in
-          rw n
+  unfolding negate
+  sign-negated =
+      by-test (shut R) (λ f. ap (λ (ts : List Token). cond (flippable (merge (compared o))) ts (wrap (merge (compared o)))) (sign-flipped f))
+      (λ f. let n : flippable (merge (compared o)) ≡ false = rw (sign-flippable, f) in rw n)
 
 -- ---- the theorem, of calm operands
 module _ (X Y : List Token) (calm-x : Calm X) (calm-y : Calm Y) where
@@ -204,15 +187,15 @@ module _ (X Y : List Token) (calm-x : Calm X) (calm-y : Calm Y) where
     flips-when = sign-flippable (unsignedTokens (p .unsigned) ++ sideTokens X Y (p .lhs)) (sideTokens X Y (p .rhs)) (front-ends (p .unsigned) (p .lhs)) (side-ends (p .rhs)) (p .sign)
 
 -- operands of one word each, as registers and numbers are: the sign is flipped wherever the text has no `&&` and no `||`
-abbrev pub Plain : Side → Type 0
-Plain left = Unit
-Plain right = Unit
-Plain difference = ⊥
-Plain both = ⊥
-Plain nought = Unit
+abbrev pub OneWord : Side → Type 0
+OneWord left = Unit
+OneWord right = Unit
+OneWord difference = ⊥
+OneWord both = ⊥
+OneWord nought = Unit
 
 module _ (x y : Token) (word-x : eqb (x .kind) 6 ≡ false) (word-y : eqb (y .kind) 6 ≡ false) where
-  word-shut : (z : Side) → Plain z → shut (sideTokens (x ∷ []) (y ∷ []) z) ≡ true
+  word-shut : (z : Side) → OneWord z → shut (sideTokens (x ∷ []) (y ∷ []) z) ≡ true
   unfolding sideTokens shut merge join lead count
   word-shut left h = rw word-x
   word-shut right h = rw word-y
@@ -220,6 +203,6 @@ module _ (x y : Token) (word-x : eqb (x .kind) 6 ≡ false) (word-y : eqb (y .ki
   word-shut both h = absurd h
   word-shut nought h = refl
 
-  pub words-flip : (p : Shown) → Plain (p .rhs) → flippable (merge (shownTokens (x ∷ []) (y ∷ []) p))
+  pub words-flip : (p : Shown) → OneWord (p .rhs) → flippable (merge (shownTokens (x ∷ []) (y ∷ []) p))
       ≡ (not (contains (txt "&&") (textOf (shownTokens (x ∷ []) (y ∷ []) p))) && not (contains (txt "||") (textOf (shownTokens (x ∷ []) (y ∷ []) p))))
   words-flip p h = rw (flips-when (x ∷ []) (y ∷ []) (word-calm x word-x) (word-calm y word-y) p, word-shut (p .rhs) h)

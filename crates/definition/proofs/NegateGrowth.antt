@@ -1,36 +1,30 @@
 -- `negate`: flipping puts at most one byte more and changes punctuation only, wrapping puts three bytes.
 -- So no `goto` is made, and the head of an if has at most two tokens more than the condition.
 use mathlib.Core.Path.{_≡_, refl, ap}
-use mathlib.Core.Bool.{Bool, true, false, _&&_, false≢true}
+use mathlib.Core.Bool.{Bool, true, false, _&&_}
 use mathlib.Core.List.{List, [], _∷_, _++_, append-assoc}
 use Prim.Native.Nat.{ℕ, suc, _+_, _≤_}
 use native.Mathlib.Omega.{arith}
-use borrow.Author.Tests.{eqb-true}
-use lib.Dec.{eqb}
+use borrow.Author.Tests.{eqb-true, leb-true}
+use lib.Dec.{eqb, leb}
 use lib.ListN.{length, drop, length-append, length-drop}
 use Rattle.definition.specs.Texts.{txt, begins, contains, replace}
-use Rattle.definition.specs.Lists.{count}
+use Rattle.definition.specs.Lists.{all, count}
 use Rattle.definition.specs.Tokens.{Token, tok, punct, joins, join, merge, textOf}
 use Rattle.definition.specs.Sorts.{isTok}
 use Rattle.definition.specs.Negate.{Flip, flips, flipIn, compares, comparisons, flipAt, flippable, negate}
-use Rattle.definition.proofs.Bools.{and-right, by-cond}
-use Rattle.definition.proofs.ListLaws.{Each, each-append}
-use Rattle.definition.proofs.Fits.{size}
-use Rattle.definition.proofs.Merge.{NoGoto, no-keyword, size-cons, size-append, join-length, merge-length, join-two}
+use Rattle.definition.proofs.Bools.{by-cond}
+use Rattle.definition.proofs.TextLaws.{begins-length}
+use Rattle.definition.proofs.ListLaws.{Each, each-append, _▸_, end, all-each, each-to}
+use Rattle.definition.proofs.Merge.{size, NoGoto, no-keyword, size-cons, size-append, join-length, merge-length, join-two}
 
 -- ---- a text flipped
-begins-length : (w s : List ℕ) → begins w s ≡ true → length w ≤ length s
-unfolding begins
-begins-length [] s e = omega arith
-begins-length (a ∷ w) [] e = absurd (false≢true e)
-begins-length (a ∷ w) (b ∷ s) e = omega (arith, begins-length w s (and-right (eqb a b) (begins w s) e))
-
 replace-length : (w v s : List ℕ) → length v ≤ length w + 1 → length (replace w v s) ≤ length s + 1
 unfolding replace
 replace-length w v [] h = omega arith
 replace-length w v (c ∷ s) h =
     let i = replace-length w v s h in
-    by-cond (λ z. length z ≤ length (c ∷ s) + 1) (begins w (c ∷ s)) (v ++ drop (length w) (c ∷ s)) (c ∷ replace w v s)
+    by-cond (λ z. length z ≤ length (c ∷ s) + 1) (begins w (c ∷ s)) {x = v ++ drop (length w) (c ∷ s)} {y = c ∷ replace w v s}
     (λ e. omega (arith, length-append v (drop (length w) (c ∷ s)), length-drop (length w) (c ∷ s), begins-length w (c ∷ s) e)) (λ e. omega arith)
 
 -- no opposite is longer by more than one byte
@@ -38,15 +32,15 @@ abbrev Short : List Flip → Type 0
 Short ps = Each (λ p. length (p .to) ≤ length (p .from) + 1) ps
 
 flips-short : Short flips
-unfolding flips
-flips-short = (omega arith, (omega arith, (omega arith, (omega arith, (omega arith, (omega arith, tt))))))
+unfolding flips all
+flips-short = each-to (λ p. leb-true _ _) (all-each (λ p. leb (length (p .to)) (length (p .from) + 1)) flips refl)
 
 flipIn-length : (ps : List Flip) (s : List ℕ) → Short ps → length (flipIn ps s) ≤ length s + 1
 unfolding flipIn
 flipIn-length [] s h = omega arith
-flipIn-length (p ∷ ps) s h =
-    let i = flipIn-length ps s (h .1) in
-    by-cond (λ z. length z ≤ length s + 1) (contains (p .from) s) (replace (p .from) (p .to) s) (flipIn ps s) (λ e. replace-length (p .from) (p .to) s (h .0)) (λ e. i)
+flipIn-length (p ∷ ps) s (q ▸ h) =
+    let i = flipIn-length ps s h in
+    by-cond (λ (z : List ℕ). length z ≤ length s + 1) (contains (p .from) s) (λ e. replace-length (p .from) (p .to) s q) (λ e. i)
 
 -- ---- tokens flipped
 flipAt-size : (bs : List Bool) (ts : List Token) → size (flipAt bs ts) ≤ size ts + 1
@@ -66,29 +60,30 @@ flipAt-length (false ∷ bs) (t ∷ ts) = ap suc (flipAt-length bs ts)
 -- a flagged token is punctuation
 flipAt-nogoto : (ts : List Token) (o c : ℕ) → NoGoto ts → NoGoto (flipAt (comparisons o c ts) ts)
 unfolding flipAt comparisons
-flipAt-nogoto [] o c h = tt
-flipAt-nogoto (t ∷ ts) o c h =
+flipAt-nogoto [] o c h = end
+flipAt-nogoto (t ∷ ts) o c (q ▸ h) =
     let o′ = o + count (eqb 40) (t .text) in
     let c′ = c + count (eqb 41) (t .text) in
-    let i = flipAt-nogoto ts o′ c′ (h .1) in
-    let j = flipAt-nogoto ts o c (h .1) in
-    by-cond (λ z. NoGoto (flipAt z (t ∷ ts))) (eqb (t .kind) 6) _ _ (λ e. flag (eqb o′ c′ && compares (t .text)) (comparisons o′ c′ ts) e i) (λ e. (h .0, j))
+    let i = flipAt-nogoto ts o′ c′ h in
+    let j = flipAt-nogoto ts o c h in
+    by-cond (λ z. NoGoto (flipAt z (t ∷ ts))) (eqb (t .kind) 6) (λ e. flag (eqb o′ c′ && compares (t .text)) (comparisons o′ c′ ts) e i) (λ e. q ▸ j)
   where
     flag : (f : Bool) (bs : List Bool) → eqb (t .kind) 6 ≡ true → NoGoto (flipAt bs ts) → NoGoto (flipAt (f ∷ bs) (t ∷ ts))
-    flag true bs e i = (no-keyword _ (ap (λ (n : ℕ). eqb n 3) (eqb-true (t .kind) 6 e)), h .1)
-    flag false bs e i = (h .0, i)
+    flag true bs e i = no-keyword _ (ap (λ (n : ℕ). eqb n 3) (eqb-true (t .kind) 6 e)) ▸ h
+    flag false bs e i = q ▸ i
 
 -- ---- negate
-abbrev wrapped : List Token → List Token
-wrapped c = punct (txt "!(") ∷ (c ++ (punct (txt ")") ∷ []))
+-- all of it between `!(` and `)`
+abbrev pub wrap : List Token → List Token
+wrap c = punct (txt "!(") ∷ (c ++ (punct (txt ")") ∷ []))
 
-by-negate {ℓ} : (P : List Token → Type ℓ) (c : List Token) → P (flipAt (comparisons 0 0 c) c) → P (wrapped c) → P (negate c)
+by-negate {ℓ} : (P : List Token → Type ℓ) (c : List Token) → P (flipAt (comparisons 0 0 c) c) → P (wrap c) → P (negate c)
 unfolding negate
-by-negate P c h k = by-cond P (flippable c) _ _ (λ e. h) (λ e. k)
+by-negate P c h k = by-cond P (flippable c) (λ e. h) (λ e. k)
 
 pub negate-nogoto : (c : List Token) → NoGoto c → NoGoto (negate c)
 unfolding isTok
-negate-nogoto c h = by-negate NoGoto c (flipAt-nogoto c 0 0 h) (refl, each-append _ c (punct (txt ")") ∷ []) h (refl, tt))
+negate-nogoto c h = by-negate NoGoto c (flipAt-nogoto c 0 0 h) (refl ▸ each-append h (refl ▸ end))
 
 pub negate-size : (c : List Token) → size (negate c) ≤ size c + 3
 unfolding textOf
@@ -103,14 +98,14 @@ headed n = punct (txt " (") ∷ (n ++ (punct (txt ") {") ∷ []))
 pub negate-length : (c : List Token) → length (merge (headed (negate c))) ≤ length c + 2
 unfolding merge join joins
 negate-length c =
-    let end : List Token = punct (txt ") {") ∷ [] in
-    let close : List Token = punct (txt ")") ∷ [] in
+    let brace : List Token = punct (txt ") {") ∷ [] in
+    let paren : List Token = punct (txt ")") ∷ [] in
     let flipped : List Token = flipAt (comparisons 0 0 c) c in
     by-negate (λ z. length (merge (headed z)) ≤ length c + 2) c
-    (omega (arith, join-length (punct (txt " (")) (merge (flipped ++ end)), merge-length flipped end, flipAt-length (comparisons 0 0 c) c))
+    (omega (arith, join-length (punct (txt " (")) (merge (flipped ++ brace)), merge-length flipped brace, flipAt-length (comparisons 0 0 c) c))
     (omega (
       arith,
-      join-two (txt " (") (txt "!(") (merge (c ++ close ++ end)),
-      ap (λ (l : List Token). length (merge l)) (append-assoc c close end),
-      merge-length c (close ++ end),
+      join-two (txt " (") (txt "!(") (merge (c ++ paren ++ brace)),
+      ap (λ (l : List Token). length (merge l)) (append-assoc c paren brace),
+      merge-length c (paren ++ brace),
     ))
