@@ -1,0 +1,61 @@
+-- Numbers that differ, and names that rise: what the tests of the loops say.
+use mathlib.Core.Path.{_≡_, sym, ap, _∙_}
+use mathlib.Core.Bool.{Bool, true, false, not}
+use mathlib.Core.List.{List}
+use Prim.Native.Nat.{ℕ, _+_, _-_}
+use native.Mathlib.Omega.{arith}
+use lib.Dec.{eqb, ltb}
+use borrow.Author.Tests.{eq-eqb, ne-eqb}
+use Rattle.definition.specs.Edition.{args, blocks, names}
+use Rattle.definition.specs.Lists.{allBelow, among, distinct}
+use Rattle.definition.specs.Contents.{size, argAt, blockLong, nameLong}
+use Rattle.definition.specs.Values.{RSP}
+use Rattle.definition.specs.Meaning.{argRegs, starts, rising}
+use Rattle.meaning.proofs.Ranges.{among-below, distinct-below}
+
+-- x and y, which were read as a and b
+module _ (a b x y : ℕ) (p : x ≡ a) (q : y ≡ b) where
+  pub same-read : x ≡ y → false ≡ not (eqb a b)
+  same-read h = rw (eq-eqb a b (sym p ∙ h ∙ q))
+
+  pub differ-read : (x ≡ y → ⊥) → true ≡ not (eqb a b)
+  differ-read h = rw (ne-eqb a b (λ e. h (p ∙ e ∙ sym q)))
+
+module _ (f : List ℕ) where
+  abbrev pub argApart : ℕ → ℕ → Bool
+  argApart i j = not (eqb (argAt f i) (argAt f j))
+
+  abbrev pub argNew : ℕ → Bool
+  argNew i = allBelow i (argApart i)
+
+  abbrev pub argSpares : ℕ → Bool
+  argSpares i = not (eqb RSP (argAt f i))
+
+  abbrev pub startApart : ℕ → ℕ → Bool
+  startApart i j = not (eqb (blockLong f i 0) (blockLong f j 0))
+
+  abbrev pub startNew : ℕ → Bool
+  startNew i = allBelow i (startApart i)
+
+  abbrev pub nameRises : ℕ → Bool
+  nameRises i = ltb (nameLong f i 0) (nameLong f (i + 1) 0)
+
+  pub args-distinct : distinct (argRegs f) ≡ allBelow (size f args) argNew
+  unfolding argRegs
+  args-distinct = distinct-below (argAt f) (size f args)
+
+  pub args-spare : not (among RSP (argRegs f)) ≡ allBelow (size f args) argSpares
+  unfolding argRegs
+  args-spare = among-below RSP (argAt f) (size f args)
+
+  pub starts-distinct : distinct (starts f) ≡ allBelow (size f blocks) startNew
+  unfolding starts
+  starts-distinct = distinct-below (λ i. blockLong f i 0) (size f blocks)
+
+  pub names-rise : (n : ℕ) → n ≡ size f names → rising f ≡ allBelow (n - 1) nameRises
+  unfolding rising
+  names-rise n e = rw e
+
+  pub no-names : (n : ℕ) → n ≡ size f names → n ≡ 0 → true ≡ rising f
+  unfolding allBelow
+  no-names n e h = let k : n - 1 ≡ 0 = omega arith in sym (names-rise n e ∙ ap (λ (m : ℕ). allBelow m nameRises) k)

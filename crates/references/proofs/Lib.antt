@@ -1,0 +1,5 @@
+pub mod Below
+pub mod Tally
+pub mod Naming
+pub mod Sound
+pub mod Unique

@@ -1,0 +1,148 @@
+-- What the table of owners holds after all mentions: entries of 1 are the expressions that are mentioned once.
+use mathlib.Core.Path.{_≡_, refl, sym, ap, _∙_}
+use mathlib.Core.Bool.{cond}
+use mathlib.Core.List.{List, [], _∷_, _++_, map}
+use Prim.Native.Nat.{ℕ, zero, suc, _+_, _-_, _≤_, _<_}
+use native.Mathlib.Decide.{ℕ-discrete}
+use native.Mathlib.Omega.{arith}
+use lib.Dec.{eqb}
+use lib.ListN.{length, getD, set, replicate, length-set, length-replicate, getD-replicate}
+use lib.Seq.{getD-set-same, getD-set-other, set-out, ext-getD}
+use borrow.Author.Tests.{eq-eqb, ne-eqb}
+use Rattle.definition.specs.Lists.{count, gather, range, allBelow}
+use Rattle.references.specs.Tally.{ownersAt, more, mentioned, tally}
+use Rattle.references.proofs.Below.{all-same}
+
+-- ---- one mention
+pub more-none : (x : ℕ) → x ≡ 0 → 1 ≡ more x
+unfolding more
+more-none x e = rw e
+
+pub more-some : (x : ℕ) → (x ≡ 0 → ⊥) → 2 ≡ more x
+unfolding more
+more-some zero h = absurd (h refl)
+more-some (suc n) h = refl
+
+pub mention-in : (t : List ℕ) (e x : ℕ) → x ≡ more (getD t e 0) → set t e x ≡ mentioned t e
+unfolding mentioned ownersAt
+mention-in t e x h = rw h
+
+pub mention-out : (t : List ℕ) (e : ℕ) → length t ≤ e → t ≡ mentioned t e
+unfolding mentioned
+mention-out t e h = sym (set-out t e (more (ownersAt t e)) h)
+
+mention-length : (t : List ℕ) (e : ℕ) → length (mentioned t e) ≡ length t
+unfolding mentioned
+mention-length t e = length-set t e (more (ownersAt t e))
+
+pub mention-keeps : (t u v : List ℕ) (e : ℕ) → u ≡ mentioned t e → length t ≡ length v → length u ≡ length v
+mention-keeps t u v e p h = ap length p ∙ mention-length t e ∙ h
+
+-- ---- runs of mentions
+pub tally-length : (es t : List ℕ) → length (tally t es) ≡ length t
+unfolding tally
+tally-length [] t = refl
+tally-length (e ∷ es) t = tally-length es (mentioned t e) ∙ mention-length t e
+
+pub tally-keeps : (t u v es : List ℕ) → u ≡ tally t es → length t ≡ length v → length u ≡ length v
+tally-keeps t u v es p h = ap length p ∙ tally-length es t ∙ h
+
+tally-append : (xs ys t : List ℕ) → tally t (xs ++ ys) ≡ tally (tally t xs) ys
+unfolding tally
+tally-append [] ys t = refl
+tally-append (x ∷ xs) ys t = tally-append xs ys (mentioned t x)
+
+pub both-runs : (xs ys t u v : List ℕ) → u ≡ tally t xs → v ≡ tally u ys → v ≡ tally t (xs ++ ys)
+both-runs xs ys t u v p q = q ∙ ap (λ (l : List ℕ). tally l ys) p ∙ sym (tally-append xs ys t)
+
+-- the loop over the names of one record: what is left of it
+module _ (g : ℕ → ℕ) (n : ℕ) where
+  pub names-turn : (k : ℕ) (t u : List ℕ) (e : ℕ) → k < n → e ≡ g k → u ≡ mentioned t e
+      → tally t (map g (range k (n - k))) ≡ tally u (map g (range (k + 1) (n - (k + 1))))
+  unfolding tally range
+  names-turn k t u e h p q = let s : n - k ≡ suc (n - (k + 1)) = omega arith in rw (s, q, p)
+
+  pub names-end : (k : ℕ) (t u : List ℕ) → n ≤ k → u ≡ tally t (map g (range k (n - k))) → t ≡ u
+  unfolding tally range
+  names-end k t u h e = let s : n - k ≡ 0 = omega arith in sym (e ∙ rw s)
+
+-- the loop over the records
+module _ (g : ℕ → List ℕ) (n : ℕ) where
+  pub runs-start : (m : ℕ) (t : List ℕ) → n ≡ m → tally t (gather g (range 0 m)) ≡ tally t (gather g (range 0 (n - 0)))
+  runs-start m t e = let s : n - 0 ≡ m = omega arith in rw s
+
+  pub runs-turn : (i : ℕ) (t u : List ℕ) → i < n → u ≡ tally t (g i)
+      → tally t (gather g (range i (n - i))) ≡ tally u (gather g (range (i + 1) (n - (i + 1))))
+  unfolding gather range
+  runs-turn i t u h e =
+      let s : n - i ≡ suc (n - (i + 1)) = omega arith in
+      rw (s, e) (tally-append (g i) (gather g (range (i + 1) (n - (i + 1)))) t)
+
+  pub runs-end : (i : ℕ) (t u : List ℕ) → n ≤ i → u ≡ tally t (gather g (range i (n - i))) → t ≡ u
+  unfolding tally gather range
+  runs-end i t u h e = let s : n - i ≡ 0 = omega arith in sym (e ∙ rw s)
+
+-- ---- what an entry says
+-- after n mentions more
+after : ℕ → ℕ → ℕ
+after x zero = x
+after x (suc n) = after (more x) n
+
+same-entry : (t : List ℕ) (e : ℕ) → e < length t → ownersAt (mentioned t e) e ≡ more (ownersAt t e)
+unfolding ownersAt mentioned
+same-entry t e h = getD-set-same t e (more (getD t e 0)) 0 h
+
+other-entry : (t : List ℕ) (x e : ℕ) → (e ≡ x → ⊥) → ownersAt (mentioned t x) e ≡ ownersAt t e
+unfolding ownersAt mentioned
+other-entry t x e h = getD-set-other t x e (more (getD t x 0)) 0 h
+
+tally-at : (es t : List ℕ) (e : ℕ) → e < length t → ownersAt (tally t es) e ≡ after (ownersAt t e) (count (eqb e) es)
+unfolding tally count after
+tally-at [] t e h = refl
+tally-at (x ∷ es) t e h =
+    let k : e < length (mentioned t x) = omega (arith, mention-length t x) in
+    tally-at es (mentioned t x) e k ∙ step (ℕ-discrete e x)
+  where
+    step : Dec (e ≡ x) → after (ownersAt (mentioned t x) e) (count (eqb e) es) ≡ after (ownersAt t e) (cond (eqb e x) (suc (count (eqb e) es)) (count (eqb e) es))
+    step (yes q) = rw (eq-eqb e x q, ← q) (ap (λ (y : ℕ). after y (count (eqb e) es)) (same-entry t e h))
+    step (no q) = rw (ne-eqb e x q) (ap (λ (y : ℕ). after y (count (eqb e) es)) (other-entry t x e q))
+
+-- a third mention and any later one change nothing
+stays : (n : ℕ) → after 2 n ≡ 2
+unfolding after more
+stays zero = refl
+stays (suc n) = stays n
+
+once : (n : ℕ) → eqb (after 0 n) 1 ≡ eqb n 1
+unfolding after more
+once zero = refl
+once (suc zero) = refl
+once (suc (suc n)) = ap (λ (x : ℕ). eqb x 1) (stays n) ∙ sym (ne-eqb (suc (suc n)) 1 (λ e. omega arith))
+
+zero-entry : (n e : ℕ) → e < n → ownersAt (replicate n 0) e ≡ 0
+unfolding ownersAt
+zero-entry n e h = getD-replicate n e 0 0 h
+
+-- a table that began as zeros: 1 says one mention
+pub tally-once : (m : ℕ) (es : List ℕ) (n : ℕ) → n ≤ m
+    → allBelow n (λ e. eqb (ownersAt (tally (replicate m 0) es) e) 1) ≡ allBelow n (λ e. eqb (count (eqb e) es) 1)
+tally-once m es n h = all-same _ _ n (λ e k.
+    let l : e < m = omega arith in
+    let b : e < length (replicate m 0) = omega (arith, length-replicate {A = ℕ} m 0) in
+    ap (λ (x : ℕ). eqb x 1) (tally-at es (replicate m 0) e b ∙ ap (λ (x : ℕ). after x (count (eqb e) es)) (zero-entry m e l))
+    ∙ once (count (eqb e) es))
+
+-- ---- the table emptied
+pub clear-on : (t : List ℕ) (i : ℕ) → ((j : ℕ) → j < i → ownersAt t j ≡ 0) → i < length t → (j : ℕ) → j < i + 1 → ownersAt (set t i 0) j ≡ 0
+unfolding ownersAt
+clear-on t i h l j k = go (ℕ-discrete j i)
+  where
+    go : Dec (j ≡ i) → getD (set t i 0) j 0 ≡ 0
+    go (yes e) = rw e (getD-set-same t i 0 0 l)
+    go (no e) = getD-set-other t i j 0 0 e ∙ h j (omega arith)
+
+pub clear-end : (t u : List ℕ) (i : ℕ) → length t ≡ length u → length t ≤ i → ((j : ℕ) → j < i → ownersAt t j ≡ 0) → t ≡ replicate (length u) 0
+unfolding ownersAt
+clear-end t u i s l h =
+    ext-getD 0 t (replicate (length u) 0) (s ∙ sym (length-replicate (length u) 0))
+    (λ j k. h j (omega arith) ∙ sym (getD-replicate (length u) j 0 0 (omega arith)))

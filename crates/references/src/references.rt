@@ -1,0 +1,250 @@
+// Check 5: texts lie inside the text, children are lower than their parents, and every expression has one owner.
+use crate::named::BIN;
+use crate::named::OPAQUE;
+use crate::named::UN;
+use crate::named::child_at;
+use crate::named::child_count;
+use crate::named::root_at;
+use crate::named::root_count;
+use crate::owned::owned_once;
+use records::contents::EXPRESSIONS;
+use records::contents::NAMES;
+use records::contents::STATEMENTS;
+use records::contents::expr_word;
+use records::contents::name_word;
+use records::contents::offset_of;
+use records::contents::size_of;
+use records::edition::Edition;
+use records::owners::BRANCH;
+use records::owners::CALL;
+use records::owners::OTHER;
+use records::owners::items_of;
+use records::owners::stmt_field;
+use records::owners::stmt_kind;
+ghost use mathlib.Core.Path.{_≡_};
+ghost use mathlib.Core.Bool.{true, not, _&&_};
+ghost use Prim.Native.Nat.{_+_, _≤_, _<_};
+ghost use lib.Dec.{eqb};
+ghost use lib.ListN.{length};
+ghost use Rattle.definition.specs.Edition.{statements, expressions, names};
+ghost use Rattle.definition.specs.Words.{part};
+ghost use Rattle.definition.specs.Contents.{size, text, textAt};
+ghost use Rattle.definition.specs.Lists.{all, allBelow};
+ghost use Rattle.definition.specs.Owners.{exprItems, firstItem};
+ghost use Rattle.definition.specs.Shape.{owned};
+ghost use Rattle.definition.specs.References.{inText, printable, nameSound, stmtText, exprText, childrenLower, rootsInside, refused5};
+ghost use Rattle.records.specs.Editions.{editionOf};
+ghost use Rattle.references.specs.Named.{stmtSound, exprSound};
+ghost use Rattle.references.specs.Tally.{Answered};
+
+// Whether n bytes from `start` on lie inside the text. The sum is of whole numbers.
+fn in_text(e: Edition, f: &[u8], start: u32, n: u32) -> bool
+    ensures { λ r. ⌜ r ≡ inText (editionOf e) (now (f .entry)) start n ⌝ }
+{
+    start as u64 + n as u64 <= size_of(f, e.text()) as u64
+}
+
+// The same of a text that may not be empty: a name, an operator.
+fn in_text_filled(e: Edition, f: &[u8], start: u32, n: u32) -> bool
+    ensures { λ r. ⌜ r ≡ (inText (editionOf e) (now (f .entry)) start n && not (eqb n 0)) ⌝ }
+{
+    if n == 0 {
+        return false;
+    }
+    in_text(e, f, start, n)
+}
+
+fn is_printable(b: u8) -> bool
+    ensures { λ r. ⌜ r ≡ printable b ⌝ }
+{
+    if b < 32 {
+        return false;
+    }
+    b <= 126
+}
+
+// Whether n bytes from `start` on are printable, as far as the file has them.
+fn part_printable(f: &[u8], start: usize, n: usize) -> bool
+    ensures { λ r. ⌜ r ≡ all printable (part (now (f .entry)) start n) ⌝ }
+{
+    let mut i = start;
+    let mut left = n;
+    while left > 0 {
+        if i >= f.len() {
+            return true;
+        }
+        if !is_printable(f[i]) {
+            return false;
+        }
+        i += 1;
+        left -= 1;
+    }
+    true
+}
+
+fn text_printable(e: Edition, f: &[u8]) -> bool
+    ensures { λ r. ⌜ r ≡ all printable (textAt (editionOf e) (now (f .entry)) 0 (size (now (f .entry)) (text (editionOf e)))) ⌝ }
+{
+    let s = e.text();
+    part_printable(f, offset_of(f, s) as usize, size_of(f, s) as usize)
+}
+
+fn name_sound(e: Edition, f: &[u8], i: u32) -> bool
+    ensures { λ r. ⌜ r ≡ nameSound (editionOf e) (now (f .entry)) i ⌝ }
+{
+    in_text_filled(e, f, name_word(f, i, 2), name_word(f, i, 3))
+}
+
+// A Call's target, a Branch's condition, an Other's text.
+fn stmt_text(e: Edition, f: &[u8], i: u32) -> bool
+    ensures { λ r. ⌜ r ≡ stmtText (editionOf e) (now (f .entry)) i ⌝ }
+{
+    let k = stmt_kind(f, i);
+    if k == CALL {
+        return in_text(e, f, stmt_field(f, i, 0), stmt_field(f, i, 1));
+    }
+    if k == BRANCH {
+        return in_text(e, f, stmt_field(f, i, 1), stmt_field(f, i, 2));
+    }
+    if k == OTHER {
+        return in_text(e, f, stmt_field(f, i, 0), stmt_field(f, i, 1));
+    }
+    true
+}
+
+// An operator and an Opaque's text.
+fn expr_text(e: Edition, f: &[u8], i: u32) -> bool
+    ensures { λ r. ⌜ r ≡ exprText (editionOf e) (now (f .entry)) i ⌝ }
+{
+    let t = expr_word(f, i, 0);
+    if t == BIN {
+        return in_text_filled(e, f, expr_word(f, i, 1), expr_word(f, i, 2));
+    }
+    if t == UN {
+        return in_text_filled(e, f, expr_word(f, i, 1), expr_word(f, i, 2));
+    }
+    if t == OPAQUE {
+        return in_text(e, f, expr_word(f, i, 1), expr_word(f, i, 2));
+    }
+    true
+}
+
+fn children_lower(f: &[u8], i: u32) -> bool
+    ensures { λ r. ⌜ r ≡ childrenLower (now (f .entry)) i ⌝ }
+{
+    let n = child_count(f, i);
+    let mut k = 0;
+    while k < n {
+        if child_at(f, i, k) >= i {
+            return false;
+        }
+        k += 1;
+    }
+    true
+}
+
+// Whether the expressions that statement i names are there; its list items begin at `first`.
+fn roots_inside(f: &[u8], i: u32, first: u32) -> bool
+    requires { ⌜ first ≡ firstItem (now f) i ⌝ }
+    requires { ⌜ first + exprItems (now f) i ≤ 4294967296 ⌝ }
+    ensures { λ r. ⌜ r ≡ rootsInside (now (f .entry)) i ⌝ }
+{
+    let expressions = size_of(f, EXPRESSIONS);
+    let n = root_count(f, i);
+    let mut k = 0;
+    while k < n {
+        if root_at(f, i, first, k) >= expressions {
+            return false;
+        }
+        k += 1;
+    }
+    true
+}
+
+fn stmt_sound(e: Edition, f: &[u8], i: u32, first: u32) -> bool
+    requires { ⌜ first ≡ firstItem (now f) i ⌝ }
+    requires { ⌜ first + exprItems (now f) i ≤ 4294967296 ⌝ }
+    ensures { λ r. ⌜ r ≡ stmtSound (editionOf e) (now (f .entry)) i ⌝ }
+{
+    if !stmt_text(e, f, i) {
+        return false;
+    }
+    roots_inside(f, i, first)
+}
+
+fn expr_sound(e: Edition, f: &[u8], i: u32) -> bool
+    ensures { λ r. ⌜ r ≡ exprSound (editionOf e) (now (f .entry)) i ⌝ }
+{
+    if !expr_text(e, f, i) {
+        return false;
+    }
+    children_lower(f, i)
+}
+
+fn names_sound(e: Edition, f: &[u8]) -> bool
+    ensures { λ r. ⌜ r ≡ allBelow (size (now (f .entry)) names) (nameSound (editionOf e) (now (f .entry))) ⌝ }
+{
+    let n = size_of(f, NAMES);
+    let mut i = 0;
+    while i < n {
+        if !name_sound(e, f, i) {
+            return false;
+        }
+        i += 1;
+    }
+    true
+}
+
+// The first item of each statement is carried along, so that no sum is made twice.
+fn stmts_sound(e: Edition, f: &[u8]) -> bool
+    requires { ⌜ firstItem (now f) (size (now f) statements) < 4294967296 ⌝ }
+    ensures { λ r. ⌜ r ≡ allBelow (size (now (f .entry)) statements) (stmtSound (editionOf e) (now (f .entry))) ⌝ }
+{
+    let n = size_of(f, STATEMENTS);
+    let mut first: u32 = 0;
+    let mut i = 0;
+    while i < n {
+        if !stmt_sound(e, f, i, first) {
+            return false;
+        }
+        first += items_of(f, i) as u32;
+        i += 1;
+    }
+    true
+}
+
+fn exprs_sound(e: Edition, f: &[u8]) -> bool
+    ensures { λ r. ⌜ r ≡ allBelow (size (now (f .entry)) expressions) (exprSound (editionOf e) (now (f .entry))) ⌝ }
+{
+    let n = size_of(f, EXPRESSIONS);
+    let mut i = 0;
+    while i < n {
+        if !expr_sound(e, f, i) {
+            return false;
+        }
+        i += 1;
+    }
+    true
+}
+
+// The caller has seen that what is owned comes out exactly, so that the list items' numbers are small.
+pub fn refused5(e: Edition, f: &[u8], owners: &mut [u32]) -> bool
+    requires { ⌜ owned (now f) ≡ true ⌝ }
+    requires { ⌜ size (now f) expressions ≤ length (now owners) ⌝ }
+    ensures { λ r. ⌜ Answered (refused5 (editionOf e) (now (f .entry))) r (now (owners .entry)) (now (owners .exit)) ⌝ }
+{
+    let once = owned_once(owners, f);
+    if !text_printable(e, f) {
+        return true;
+    }
+    if !names_sound(e, f) {
+        return true;
+    }
+    if !stmts_sound(e, f) {
+        return true;
+    }
+    if !exprs_sound(e, f) {
+        return true;
+    }
+    !once
+}

@@ -1,0 +1,11 @@
+use Rattle.shape.proofs.Shapes.{absent-is}
+use Rattle.shape.proofs.shape.absent.Statement.{statement}
+use Rattle.shape.proofs.shape.absent.Tie as tie
+use Rattle.shape.proofs.shape.absent.Reads as reads
+use Rattle.shape.proofs.shape.absent.Lts as lts
+
+returns : tie.Need-returns
+returns c = absent-is (c .args .there) (c .args .w)
+
+pub absent-spec : {M : Type 1} → statement M
+absent-spec = tie.close (tie.spec returns)

@@ -1,0 +1,33 @@
+use Rattle.shape.proofs.Shapes.{call-is}
+use borrow.Author.Needs.{needs}
+use Rattle.shape.proofs.shape.call_shaped.Statement.{statement}
+use Rattle.shape.proofs.shape.call_shaped.Tie as tie
+use Rattle.shape.proofs.shape.call_shaped.Reads as reads
+use Rattle.shape.proofs.shape.call_shaped.Lts as lts
+use Rattle.shape.proofs.shape.optional.Reads as optional-reads
+use Rattle.records.proofs.owners.stmt_field.Reads as stmt-field-reads
+
+stmt-field-requires : tie.Need-stmt-field-requires
+stmt-field-requires c κs = search needs
+
+stmt-field-requires-2 : tie.Need-stmt-field-requires-2
+stmt-field-requires-2 c κs = search needs
+
+stmt-field-requires-3 : tie.Need-stmt-field-requires-3
+stmt-field-requires-3 c κs = search needs
+
+optional-requires : tie.Need-optional-requires
+optional-requires c κs = search needs
+
+returns : tie.Need-returns
+returns c = call-is _ _ _ _ _ (c .before .before .before .stmt-field .ensures) (c .before .before .stmt-field2 .ensures) (c .before .stmt-field3 .ensures) (c .optional .ensures)
+
+pub call-shaped-spec : {M : Type 1} → statement M
+call-shaped-spec =
+    tie.close
+    (tie.spec
+    stmt-field-requires
+    stmt-field-requires-2
+    stmt-field-requires-3
+    optional-requires
+    returns)

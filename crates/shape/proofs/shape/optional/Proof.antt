@@ -1,0 +1,19 @@
+use Rattle.shape.proofs.Shapes.{optional-is}
+use borrow.Author.Needs.{needs}
+use Rattle.shape.proofs.shape.optional.Statement.{statement}
+use Rattle.shape.proofs.shape.optional.Tie as tie
+use Rattle.shape.proofs.shape.optional.Reads as reads
+use Rattle.shape.proofs.shape.optional.Lts as lts
+use Rattle.shape.proofs.shape.absent.Reads as absent-reads
+
+absent-requires : tie.Need-absent-requires
+absent-requires c κs = search needs
+
+absent-requires-2 : tie.Need-absent-requires-2
+absent-requires-2 c κs = search needs
+
+returns : tie.Need-returns
+returns c = let a = c .before .before .args in optional-is (a .there) (a .v) (a .w) _ _ (c .before .absent .ensures) (c .absent2 .ensures)
+
+pub optional-spec : {M : Type 1} → statement M
+optional-spec = tie.close (tie.spec absent-requires absent-requires-2 returns)

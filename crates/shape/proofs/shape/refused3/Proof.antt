@@ -1,0 +1,19 @@
+use Rattle.shape.proofs.Sections.{refused3-is}
+use borrow.Author.Needs.{needs}
+use Rattle.shape.proofs.shape.refused3.Statement.{statement}
+use Rattle.shape.proofs.shape.refused3.Tie as tie
+use Rattle.shape.proofs.shape.refused3.Reads as reads
+use Rattle.shape.proofs.shape.refused3.Lts as lts
+use Rattle.shape.proofs.shape.too_many.Reads as too-many-reads
+
+cast-result : tie.Need-cast-result
+cast-result c = search needs
+
+too-many-requires : tie.Need-too-many-requires
+too-many-requires c κs = search needs
+
+returns : tie.Need-returns
+returns c = refused3-is (c .before .before .before .args .e) (c .before .before .before .args .f .now) _ (c .too-many .ensures)
+
+pub refused3-spec : {M : Type 1} → statement M
+refused3-spec = tie.close (tie.spec cast-result too-many-requires returns)

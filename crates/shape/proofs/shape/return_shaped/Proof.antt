@@ -1,0 +1,38 @@
+use Rattle.shape.proofs.Shapes.{return-is}
+use borrow.Author.Needs.{needs}
+use Rattle.shape.proofs.shape.return_shaped.Statement.{statement}
+use Rattle.shape.proofs.shape.return_shaped.Tie as tie
+use Rattle.shape.proofs.shape.return_shaped.Reads as reads
+use Rattle.shape.proofs.shape.return_shaped.Lts as lts
+use Rattle.shape.proofs.shape.absent.Reads as absent-reads
+use Rattle.shape.proofs.shape.blank_tail.Reads as blank-tail-reads
+use Rattle.records.proofs.owners.stmt_field.Reads as stmt-field-reads
+
+stmt-field-requires : tie.Need-stmt-field-requires
+stmt-field-requires c κs = search needs
+
+stmt-field-requires-2 : tie.Need-stmt-field-requires-2
+stmt-field-requires-2 c κs = search needs
+
+absent-requires : tie.Need-absent-requires
+absent-requires c κs = search needs
+
+stmt-field-requires-3 : tie.Need-stmt-field-requires-3
+stmt-field-requires-3 c κs = search needs
+
+blank-tail-requires : tie.Need-blank-tail-requires
+blank-tail-requires c κs = search needs
+
+returns : tie.Need-returns
+returns c = return-is _ _ _ _ _ _ (c .before .before .before .before .stmt-field .ensures) (c .before .before .before .stmt-field2 .ensures) (c .before .stmt-field3 .ensures) (c .before .before .absent .ensures) (c .blank-tail .ensures)
+
+pub return-shaped-spec : {M : Type 1} → statement M
+return-shaped-spec =
+    tie.close
+    (tie.spec
+    stmt-field-requires
+    stmt-field-requires-2
+    absent-requires
+    stmt-field-requires-3
+    blank-tail-requires
+    returns)

@@ -1,0 +1,25 @@
+use Rattle.shape.proofs.Shapes.{stmt-is}
+use borrow.Author.Needs.{needs}
+use Rattle.shape.proofs.shape.stmt_shaped.Statement.{statement}
+use Rattle.shape.proofs.shape.stmt_shaped.Tie as tie
+use Rattle.shape.proofs.shape.stmt_shaped.Reads as reads
+use Rattle.shape.proofs.shape.stmt_shaped.Lts as lts
+use Rattle.shape.proofs.shape.fields_shaped.Reads as fields-shaped-reads
+use Rattle.shape.proofs.shape.items_shaped.Reads as items-shaped-reads
+use Rattle.records.proofs.contents.stmt_word.Reads as stmt-word-reads
+
+stmt-word-requires : tie.Need-stmt-word-requires
+stmt-word-requires c κs = search needs
+
+fields-shaped-requires : tie.Need-fields-shaped-requires
+fields-shaped-requires c κs = search needs
+
+items-shaped-requires : tie.Need-items-shaped-requires
+items-shaped-requires c κs = search needs
+
+returns : tie.Need-returns
+returns c = stmt-is _ _ _ _ _ (c .before .before .stmt-word .ensures) (c .before .fields-shaped .ensures) (c .items-shaped .ensures)
+
+pub stmt-shaped-spec : {M : Type 1} → statement M
+stmt-shaped-spec =
+    tie.close (tie.spec stmt-word-requires fields-shaped-requires items-shaped-requires returns)

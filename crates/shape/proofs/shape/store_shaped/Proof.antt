@@ -1,0 +1,20 @@
+use Rattle.shape.proofs.Shapes.{store-is}
+use borrow.Author.Needs.{needs}
+use Rattle.shape.proofs.shape.store_shaped.Statement.{statement}
+use Rattle.shape.proofs.shape.store_shaped.Tie as tie
+use Rattle.shape.proofs.shape.store_shaped.Reads as reads
+use Rattle.shape.proofs.shape.store_shaped.Lts as lts
+use Rattle.shape.proofs.shape.blank_tail.Reads as blank-tail-reads
+use Rattle.records.proofs.owners.stmt_field.Reads as stmt-field-reads
+
+stmt-field-requires : tie.Need-stmt-field-requires
+stmt-field-requires c κs = search needs
+
+blank-tail-requires : tie.Need-blank-tail-requires
+blank-tail-requires c κs = search needs
+
+returns : tie.Need-returns
+returns c = store-is _ _ _ (c .before .stmt-field .ensures) (c .blank-tail .ensures)
+
+pub store-shaped-spec : {M : Type 1} → statement M
+store-shaped-spec = tie.close (tie.spec stmt-field-requires blank-tail-requires returns)

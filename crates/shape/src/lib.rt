@@ -1,0 +1,2 @@
+// Checks 2, 3 and 4: size and limits, sections, and each word in its place.
+pub mod shape;
