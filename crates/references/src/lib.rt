@@ -1,4 +1,4 @@
 // Check 5: texts inside the text, children lower, every expression owned once.
 pub mod named;
-mod owned;
+pub mod owned;
 pub mod references;

@@ -21,7 +21,7 @@ struct Random<'a> {
 }
 
 pub fn records(rng: &mut Rng) -> Records {
-    let mut scale = if rng.one_in(100) { rng.range(20, 300) } else { rng.size(1, 16) };
+    let mut scale = if rng.one_in(100) { rng.range(20, 300) } else { rng.range(1, 12) };
     loop {
         let function = if rng.one_in(12) { expansion(rng) } else { Random::new(rng, scale).function() };
         let mut records = function.records();
@@ -38,7 +38,7 @@ impl<'a> Random<'a> {
         let length = rng.size(0, 40 * scale);
         let pool = (0..length).map(|_| char::from(rng.range(0x20, 0x7E) as u8)).collect();
         let mut r = Random { values: Values::new(rng.coin()), pool, starts: Vec::new(), left: 8 * scale, far: rng.one_in(10), rng };
-        for _ in 0..r.rng.size(0, scale) {
+        for _ in 0..r.rng.below(scale + 1) {
             let start = r.address();
             // The next free start: equal ones would be refused.
             let free = (0..).map(|k| start.wrapping_add(k)).find(|s| !r.starts.contains(s));
@@ -48,7 +48,7 @@ impl<'a> Random<'a> {
     }
 
     fn function(mut self) -> Function {
-        let per_block = self.rng.size(0, 8);
+        let per_block = self.rng.range(1, 8);
         let blocks = self.starts.clone().into_iter().map(|s| self.block(s, per_block)).collect();
         let mut args: Vec<u32> = (0..16).filter(|r| *r != 4).collect();
         self.rng.shuffle(&mut args);

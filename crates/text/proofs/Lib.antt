@@ -1,0 +1,8 @@
+pub mod Rest
+pub mod Leaves
+pub mod Copies
+pub mod Digits
+pub mod Lookups
+pub mod Tables
+pub mod Texts
+pub mod Unique

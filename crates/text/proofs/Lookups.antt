@@ -1,0 +1,170 @@
+-- Looking up: the name for an address, by its index and by the definition; globals; a number among others.
+use mathlib.Core.Path.{_≡_, refl, sym, ap, _∙_}
+use mathlib.Core.Bool.{Bool, true, false, cond}
+use mathlib.Core.Option.{Option, none, some}
+use mathlib.Core.List.{List, _++_, map}
+use Prim.Native.Nat.{ℕ, zero, suc, _+_, _-_, _≤_, _<_}
+use native.Mathlib.Numerals.{add-one}
+use native.Mathlib.Omega.{arith}
+use borrow.Author.Tests.{le-leb, lt-leb, eq-eqb, ne-eqb}
+use lib.Dec.{eqb, ltb}
+use lib.ListN.{length, drop, getD, drop-of-length-le}
+use lib.Seq.{drop-cons}
+use Rattle.definition.specs.Edition.{Edition, names}
+use Rattle.definition.specs.Lists.{any, among, range}
+use Rattle.definition.specs.Words.{part}
+use Rattle.definition.specs.Contents.{offset, text, textAt, size, nameWord, nameLong}
+use Rattle.definition.specs.Read.{nameAt}
+use Rattle.definition.specs.Numbers.{HEX}
+use Rattle.definition.specs.Lookup.{nameFor, sizePrefix, nameOr, globalName}
+use Rattle.text.specs.declared.names.Found.{Found}
+use Rattle.text.specs.declared.names.Found.the-variants.{At, Nothing}
+use Rattle.text.specs.Supplied.{found, indexFrom, nameIndex, nameText, textOf, isGlobal, globalText}
+
+-- ---- the loop of `name_for`: n names in all, i passed
+pub index-start : (f : List ℕ) (a n : ℕ) → n ≡ size f names → nameIndex f a ≡ indexFrom f a 0 (n - 0)
+unfolding nameIndex
+index-start f a n e =
+    let k : size f names ≡ n - 0 = omega arith in
+    ap (indexFrom f a 0) k
+
+from-here : (f : List ℕ) (a i k : ℕ) → nameLong f i 0 ≡ a → indexFrom f a i (suc k) ≡ some i
+unfolding indexFrom
+from-here f a i k e = rw (eq-eqb (nameLong f i 0) a e)
+
+from-next : (f : List ℕ) (a i k : ℕ) → (nameLong f i 0 ≡ a → ⊥) → indexFrom f a i (suc k) ≡ indexFrom f a (i + 1) k
+unfolding indexFrom
+from-next f a i k e = rw (ne-eqb (nameLong f i 0) a e)
+
+module _ (f : List ℕ) (a n i : ℕ) (so : nameIndex f a ≡ indexFrom f a i (n - i)) where
+  pub index-here : (x : ℕ) → i < n → x ≡ nameLong f i 0 → x ≡ a → At i ≡ found (nameIndex f a)
+  unfolding found
+  index-here x h e q =
+      let k : n - i ≡ suc (n - (i + 1)) = omega arith in
+      sym (ap found (so ∙ ap (indexFrom f a i) k ∙ from-here f a i _ (sym e ∙ q)))
+
+  pub index-next : (x : ℕ) → i < n → x ≡ nameLong f i 0 → (x ≡ a → ⊥) → nameIndex f a ≡ indexFrom f a (i + 1) (n - (i + 1))
+  index-next x h e q =
+      let k : n - i ≡ suc (n - (i + 1)) = omega arith in
+      so ∙ ap (indexFrom f a i) k ∙ from-next f a i _ (λ p. q (e ∙ p))
+
+  pub index-none : n ≤ i → Nothing ≡ found (nameIndex f a)
+  unfolding found indexFrom
+  index-none h =
+      let k : n - i ≡ 0 = omega arith in
+      sym (ap found (so ∙ ap (indexFrom f a i) k))
+
+-- ---- what the index means, and all that another search has to show
+from-first : (f : List ℕ) (a i n k : ℕ) → k < n → nameLong f (i + k) 0 ≡ a → ((j : ℕ) → j < k → nameLong f (i + j) 0 ≡ a → ⊥)
+    → indexFrom f a i n ≡ some (i + k)
+from-first f a i zero k h e before = absurd (omega arith)
+from-first f a i (suc n) zero h e before =
+    let z : i + 0 ≡ i = omega arith in
+    from-here f a i n (rw z at e) ∙ ap some (sym z)
+from-first f a i (suc n) (suc k) h e before =
+    let z : i + 0 ≡ i = omega arith in
+    let move : (j : ℕ) → i + 1 + j ≡ i + suc j = λ j. omega arith in
+    from-next f a i n (λ q. before 0 (omega arith) (rw z q))
+    ∙ from-first f a (i + 1) n k (omega arith) (rw (move k) e) (λ j g q. before (suc j) (omega arith) (rw (move j) at q))
+    ∙ ap some (move k)
+
+from-absent : (f : List ℕ) (a i n : ℕ) → ((j : ℕ) → j < n → nameLong f (i + j) 0 ≡ a → ⊥) → indexFrom f a i n ≡ none
+unfolding indexFrom
+from-absent f a i zero absent = refl
+from-absent f a i (suc n) absent =
+    let z : i + 0 ≡ i = omega arith in
+    let move : (j : ℕ) → i + 1 + j ≡ i + suc j = λ j. omega arith in
+    from-next f a i n (λ q. absent 0 (omega arith) (rw z q))
+    ∙ from-absent f a (i + 1) n (λ j g q. absent (suc j) (omega arith) (rw (move j) at q))
+
+pub index-first : (f : List ℕ) (a k : ℕ) → k < size f names → nameLong f k 0 ≡ a → ((j : ℕ) → j < k → nameLong f j 0 ≡ a → ⊥)
+    → nameIndex f a ≡ some k
+unfolding nameIndex
+index-first f a k h e before =
+    let z : (j : ℕ) → 0 + j ≡ j = λ j. omega arith in
+    from-first f a 0 (size f names) k h (rw (z k) e) (λ j g q. before j g (rw (z j) at q)) ∙ ap some (z k)
+
+pub index-absent : (f : List ℕ) (a : ℕ) → ((j : ℕ) → j < size f names → nameLong f j 0 ≡ a → ⊥) → nameIndex f a ≡ none
+unfolding nameIndex
+index-absent f a absent =
+    let z : (j : ℕ) → 0 + j ≡ j = λ j. omega arith in
+    from-absent f a 0 (size f names) (λ j g q. absent j g (rw (z j) at q))
+
+-- ---- the index is the definition's name
+textAt-from : (E : Edition) (f : List ℕ) (a i n : ℕ) → nameFor (map (nameAt E f) (range i n)) a ≡ textOf f (text E) (indexFrom f a i n)
+unfolding nameFor nameAt range indexFrom textOf nameText textAt
+textAt-from E f a i zero = refl
+textAt-from E f a i (suc n) = go (eqb (nameLong f i 0) a) (textAt-from E f a (i + 1) n)
+  where
+    go : (b : Bool) → nameFor (map (nameAt E f) (range (i + 1) n)) a ≡ textOf f (text E) (indexFrom f a (i + 1) n)
+        → cond b (some (nameAt E f i .text)) (nameFor (map (nameAt E f) (range (i + 1) n)) a)
+        ≡ textOf f (text E) (cond b (some i) (indexFrom f a (i + 1) n))
+    go true h = refl
+    go false h = h
+
+pub name-is : (E : Edition) (f : List ℕ) (a : ℕ)
+    → nameFor (map (nameAt E f) (range 0 (size f names))) a ≡ textOf f (text E) (nameIndex f a)
+unfolding nameIndex
+name-is E f a = textAt-from E f a 0 (size f names)
+
+-- what `text_part` and `name_text` write, where t is the text's section
+pub text-is : (E : Edition) (f : List ℕ) (start n : ℕ) → part f (offset f (text E) + start) n ≡ textAt E f start n
+unfolding textAt
+text-is E f start n = refl
+
+pub name-text-is : (E : Edition) (f : List ℕ) (i : ℕ) → nameText f (text E) i ≡ nameAt E f i .text
+unfolding nameText nameAt textAt
+name-text-is E f i = refl
+
+-- so `is_global` and `global_name` together are `globalName`
+pub global-is : (E : Edition) (f : List ℕ) (c n : ℕ)
+    → globalName (map (nameAt E f) (range 0 (size f names))) c n ≡ cond (isGlobal c) (some (globalText f (text E) c n)) none
+unfolding globalName isGlobal globalText
+global-is E f c n = rw (name-is E f c)
+
+-- ---- globals
+pub global-low : (c : ℕ) → c < 4096 → false ≡ isGlobal c
+unfolding isGlobal
+global-low c h = rw (lt-leb 4096 c h)
+
+pub global-high : (c : ℕ) → 4096 ≤ c → ltb c 9223372036854775808 ≡ isGlobal c
+unfolding isGlobal
+global-high c h = rw (le-leb 4096 c h)
+
+-- ---- a number among others
+pub among-here : (v : ℕ) (s : List ℕ) (i : ℕ) → i < length s → getD s i 0 ≡ v → among v (drop i s) ≡ true
+unfolding among any
+among-here v s i h e = rw (drop-cons s i 0 h, eq-eqb v (getD s i 0) (sym e))
+
+pub among-next : (v : ℕ) (s : List ℕ) (i : ℕ) → i < length s → (getD s i 0 ≡ v → ⊥) → among v (drop i s) ≡ among v (drop (i + 1) s)
+unfolding among any
+among-next v s i h e = rw (add-one, drop-cons s i 0 h, ne-eqb v (getD s i 0) (λ p. e (sym p)))
+
+pub among-end : (v : ℕ) (s : List ℕ) (i : ℕ) → length s ≤ i → among v (drop i s) ≡ false
+unfolding among any
+among-end v s i h = rw (drop-of-length-le s h)
+
+-- ---- the returns of `global_name`, by what the lookup answered
+nothing-none : (o : Option ℕ) → found o ≡ Nothing → o ≡ none
+unfolding found
+nothing-none none h = refl
+nothing-none (some i) h = let z : _≡_ {A = ℕ} 0 1 = cc in absurd (omega arith)
+
+at-some : (o : Option ℕ) (i : ℕ) → found o ≡ At i → o ≡ some i
+unfolding found
+at-some none i h = let z : _≡_ {A = ℕ} 0 1 = cc in absurd (omega arith)
+at-some (some j) i h = let e : j ≡ i = cc in ap some e
+
+module _ (f : List ℕ) (t c n : ℕ) (r : Found) (look : r ≡ found (nameIndex f c)) where
+  pub global-unnamed : r ≡ Nothing → sizePrefix n ++ HEX c ≡ globalText f t c n
+  unfolding globalText textOf nameOr
+  global-unnamed e = rw (nothing-none (nameIndex f c) (sym look ∙ e))
+
+  pub global-named : (i : ℕ) → r ≡ At i → nameText f t i ≡ globalText f t c n
+  unfolding globalText textOf nameOr
+  global-named i e = rw (at-some (nameIndex f c) i (sym look ∙ e))
+
+-- the text of a name, by the words that were read
+pub name-part : (f : List ℕ) (t i a n : ℕ) → a ≡ nameWord f i 2 → n ≡ nameWord f i 3 → part f (offset f t + a) n ≡ nameText f t i
+unfolding nameText
+name-part f t i a n p q = rw (p, q)

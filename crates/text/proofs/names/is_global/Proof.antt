@@ -1,0 +1,16 @@
+use Rattle.text.proofs.Lookups.{global-low, global-high}
+use Rattle.text.proofs.names.is_global.Statement.{statement}
+use Rattle.text.proofs.names.is_global.Tie as tie
+use Rattle.text.proofs.names.is_global.Reads as reads
+use Rattle.text.proofs.names.is_global.Lts as lts
+
+-- src/names.rt:64:9
+returns : tie.Need-returns
+returns c = global-low _ (c .if1 .taken)
+
+-- src/names.rt:60:1
+returns-2 : tie.Need-returns-2
+returns-2 c = global-high _ (c .if1 .left)
+
+pub is-global-spec : {M : Type 1} → statement M
+is-global-spec = tie.close (tie.spec returns returns-2)

@@ -1,0 +1,37 @@
+use native.Mathlib.Omega.{arith}
+use Rattle.text.specs.Numeral.{baseOf}
+use borrow.Author.Needs.{needs}
+use Rattle.text.proofs.numbers.base.Statement.{statement}
+use Rattle.text.proofs.numbers.base.Tie as tie
+use Rattle.text.proofs.numbers.base.Reads as reads
+use Rattle.text.proofs.numbers.base.Lts as lts
+
+-- src/numbers.rt:29:27
+enum-told : tie.Need-enum-told
+enum-told c = search needs
+
+-- src/numbers.rt:30:25
+enum-told-2 : tie.Need-enum-told-2
+enum-told-2 c = search needs
+
+-- src/numbers.rt:31:25
+enum-told-3 : tie.Need-enum-told-3
+enum-told-3 c = search needs
+
+-- src/numbers.rt:25:1
+returns : tie.Need-returns
+unfolding baseOf
+returns c = (cc, omega arith, omega arith)
+
+-- src/numbers.rt:25:1
+returns-2 : tie.Need-returns-2
+unfolding baseOf
+returns-2 c = (cc, omega arith, omega arith)
+
+-- src/numbers.rt:25:1
+returns-3 : tie.Need-returns-3
+unfolding baseOf
+returns-3 c = (cc, omega arith, omega arith)
+
+pub base-spec : {M : Type 1} → statement M
+base-spec = tie.close (tie.spec enum-told enum-told-2 enum-told-3 returns returns-2 returns-3)

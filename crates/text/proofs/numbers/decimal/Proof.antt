@@ -1,0 +1,23 @@
+use Rattle.text.proofs.Texts.{decimal-is}
+use Rattle.text.proofs.Leaves.{leaf-as}
+use borrow.Author.Needs.{needs}
+use Rattle.text.proofs.numbers.decimal.Statement.{statement}
+use Rattle.text.proofs.numbers.decimal.Tie as tie
+use Rattle.text.proofs.numbers.decimal.Reads as reads
+use Rattle.text.proofs.numbers.decimal.Lts as lts
+use Rattle.text.proofs.numbers.digits.Reads as digits-reads
+
+-- src/numbers.rt:115:5
+digits-requires : tie.Need-digits-requires
+digits-requires c κs = search needs
+
+-- src/numbers.rt:112:1
+same-length : tie.Need-same-length
+same-length c = search needs
+
+-- src/numbers.rt:112:1
+returns : tie.Need-returns
+returns c = leaf-as (c .before .before .digits .ensures) (decimal-is _)
+
+pub decimal-spec : {M : Type 1} → statement M
+decimal-spec = tie.close (tie.spec digits-requires same-length returns)

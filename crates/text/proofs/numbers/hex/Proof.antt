@@ -1,0 +1,23 @@
+use Rattle.text.proofs.Texts.{hex-is}
+use Rattle.text.proofs.Leaves.{leaf-as}
+use borrow.Author.Needs.{needs}
+use Rattle.text.proofs.numbers.hex.Statement.{statement}
+use Rattle.text.proofs.numbers.hex.Tie as tie
+use Rattle.text.proofs.numbers.hex.Reads as reads
+use Rattle.text.proofs.numbers.hex.Lts as lts
+use Rattle.text.proofs.numbers.digits.Reads as digits-reads
+
+-- src/numbers.rt:121:5
+digits-requires : tie.Need-digits-requires
+digits-requires c κs = search needs
+
+-- src/numbers.rt:118:1
+same-length : tie.Need-same-length
+same-length c = search needs
+
+-- src/numbers.rt:118:1
+returns : tie.Need-returns
+returns c = leaf-as (c .before .before .digits .ensures) (hex-is _)
+
+pub hex-spec : {M : Type 1} → statement M
+hex-spec = tie.close (tie.spec digits-requires same-length returns)

@@ -1,0 +1,27 @@
+use Rattle.text.proofs.Texts.{label-is}
+use Rattle.text.proofs.Leaves.{leaf-as}
+use borrow.Author.Needs.{needs}
+use Rattle.text.proofs.numbers.label.Statement.{statement}
+use Rattle.text.proofs.numbers.label.Tie as tie
+use Rattle.text.proofs.numbers.label.Reads as reads
+use Rattle.text.proofs.numbers.label.Lts as lts
+use Rattle.text.proofs.numbers.behind.Reads as behind-reads
+
+-- src/numbers.rt:161:17
+slice-aggregate-behind : tie.Need-slice-aggregate-behind
+slice-aggregate-behind c = search needs
+
+-- src/numbers.rt:161:5
+behind-requires : tie.Need-behind-requires
+behind-requires c κs = search needs
+
+-- src/numbers.rt:158:1
+same-length : tie.Need-same-length
+same-length c = search needs
+
+-- src/numbers.rt:158:1
+returns : tie.Need-returns
+returns c = leaf-as (c .before .before .behind .ensures) (label-is _)
+
+pub label-spec : {M : Type 1} → statement M
+label-spec = tie.close (tie.spec slice-aggregate-behind behind-requires same-length returns)
