@@ -1,8 +1,7 @@
-pub mod Below
 pub mod Ranges
 pub mod Values
-pub mod Naming
+pub mod RegistersNamed
 pub mod Apart
 pub mod Defining
 pub mod Refusing
-pub mod Registers
+pub mod Unique

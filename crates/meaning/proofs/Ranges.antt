@@ -7,6 +7,7 @@ use native.Mathlib.Decide.{ℕ-discrete}
 use native.Mathlib.Omega.{arith}
 use lib.Dec.{eqb}
 use borrow.Author.Tests.{eq-eqb, ne-eqb}
+use Rattle.records.proofs.Also.{and-cross}
 use Rattle.definition.specs.Lists.{all, any, count, gather, range, allBelow, sumBelow, among, distinct}
 
 -- the last number of a range
@@ -78,17 +79,6 @@ module _ {A : Type 0} (p : A → Bool) where
   count-gather g (suc n) =
       ap (count p) (gather-last g n) ∙ count-append (gather g (range 0 n)) (g n) ∙ ap (λ (m : ℕ). m + count p (g n)) (count-gather g n)
 
--- the sums of two, place by place
-pub sum-add : (g h : ℕ → ℕ) (n : ℕ) → sumBelow n g + sumBelow n h ≡ sumBelow n (λ i. g i + h i)
-unfolding sumBelow
-sum-add g h zero = refl
-sum-add g h (suc n) = let e = sum-add g h n in omega arith
-
-pub sum-same : (g h : ℕ → ℕ) (n : ℕ) → ((i : ℕ) → g i ≡ h i) → sumBelow n g ≡ sumBelow n h
-unfolding sumBelow
-sum-same g h zero e = refl
-sum-same g h (suc n) e = ap₂ (λ (a b : ℕ). a + b) (sum-same g h n e) (e n)
-
 -- ---- no number twice
 not-or : (a b : Bool) → not (a || b) ≡ (not a && not b)
 not-or true b = refl
@@ -116,15 +106,8 @@ unfolding distinct among any
 distinct-append [] y = refl
 distinct-append (x ∷ xs) y =
     ap₂ (λ (a b : Bool). a && b) (among-append x xs y) (distinct-append xs y)
-    ∙ go (not (among x xs)) (not (eqb x y)) (distinct xs) (not (among y xs))
+    ∙ and-cross (not (among x xs)) (not (eqb x y)) (distinct xs) (not (among y xs))
     ∙ sym (ap (λ (b : Bool). not (among x xs) && distinct xs && b) (not-or (eqb y x) (among y xs) ∙ ap (λ (b : Bool). not b && not (among y xs)) (eqb-sym y x)))
-  where
-    go : (a b c d : Bool) → (a && b && (c && d)) ≡ (a && c && (b && d))
-    go false b c d = refl
-    go true false true d = refl
-    go true false false d = refl
-    go true true true d = refl
-    go true true false d = refl
 
 pub among-below : (x : ℕ) (g : ℕ → ℕ) (n : ℕ) → not (among x (map g (range 0 n))) ≡ allBelow n (λ j. not (eqb x (g j)))
 unfolding allBelow range among any

@@ -14,7 +14,7 @@ use Rattle.definition.specs.Contents.{size, offset, text, textAt}
 use Rattle.definition.specs.Owners.{stmtKind, stmtField}
 use Rattle.definition.specs.Values.{RSP}
 use Rattle.definition.specs.Meaning.{bits, argRegs, starts, rising, definedOnce, registers, targeted, refused6}
-use Rattle.meaning.proofs.Below.{also}
+use Rattle.records.proofs.Also.{also}
 
 pub bits-are : (f : List ℕ) (n : ℕ) → n ≡ word f 4 → n ≡ bits f
 unfolding bits

@@ -1,24 +1,23 @@
 -- What each return of the functions on values comes to, over plain numbers and lists.
-use mathlib.Core.Path.{_≡_, refl, ap₂, _∙_}
-use mathlib.Core.Bool.{Bool, true, false, _&&_}
+use mathlib.Core.Path.{_≡_, refl, ap₂}
+use mathlib.Core.Bool.{Bool, true, false}
 use mathlib.Core.List.{List, [], _∷_}
-use Prim.Native.Nat.{ℕ, _+_, _*_, _≤_, _<_}
-use native.Mathlib.Decide.{decLt}
+use Prim.Native.Nat.{ℕ, _+_, _<_}
 use native.Mathlib.Omega.{arith}
 use lib.Dec.{eqb}
-use lib.ListN.{length, getD}
-use borrow.Author.Tests.{eq-eqb, ne-eqb, eqb-true}
-use Rattle.definition.specs.Edition.{blocks, phis, inputs, statements, lists}
-use Rattle.definition.specs.Lists.{sumBelow}
-use Rattle.definition.specs.Words.{word}
+use lib.ListN.{getD}
+use mir.Syntax.{w8}
+use mir.Val.{Fits}
+use borrow.Author.Tests.{eq-eqb, ne-eqb}
+use Rattle.definition.specs.Edition.{statements}
 use Rattle.definition.specs.Contents.{size, phiWord, itemWord}
-use Rattle.definition.specs.Owners.{stmtKind, stmtField, exprItems, valueItems, items, firstPhi, firstStmt, firstInput, firstItem}
+use Rattle.definition.specs.Owners.{stmtKind, stmtField, exprItems, valueItems, firstItem}
 use Rattle.definition.specs.Shape.{owned}
 use Rattle.definition.specs.Values.{Value, value, eqv}
 use Rattle.definition.specs.Meaning.{phiValue, assigned, callReturns}
 use Rattle.meaning.specs.Defined.{itemValue}
-use Rattle.words.proofs.Laws.{word-out, word-in}
-use Rattle.meaning.proofs.Below.{sum-start, sum-le, sum-turn}
+use Rattle.records.proofs.Laws.{both-items}
+use Rattle.records.proofs.Items.{first-turn, items-few, items-fit, exprs-fit}
 
 -- ---- equal values, by their parts
 pub other-reg : (a b : Value) → (a .reg ≡ b .reg → ⊥) → false ≡ eqv a b
@@ -60,60 +59,16 @@ module _ (f : List ℕ) (i k : ℕ) (kind : k ≡ stmtKind f i) where
   unfolding callReturns
   returns-one w r n h e g p q = rw (← kind, eq-eqb k 3 h, ← e, eq-eqb w 1 g) (ap₂ (λ (a b : ℕ). value a b ∷ []) p q)
 
--- ---- items: what is owned comes out exactly, so every sum of items is within the lists, whose size is one of the file's words
-pub word-small : (f : List ℕ) (i : ℕ) → ((k : ℕ) → getD f k 0 < 256) → word f i < 4294967296
-word-small f i b = go (decLt (length f) (i + 4))
-  where
-    go : Dec (length f < i + 4) → word f i < 4294967296
-    go (yes h) = let e = word-out f i h in omega arith
-    go (no h) =
-        let e : word f i ≡ getD f i 0 + 256 * getD f (i + 1) 0 + 65536 * getD f (i + 2) 0 + 16777216 * getD f (i + 3) 0 = word-in f i (omega arith) in
-        omega (arith, b i, b (i + 1), b (i + 2), b (i + 3))
-
-pub size-small : (f : List ℕ) (s : ℕ) → ((k : ℕ) → getD f k 0 < 256) → size f s < 4294967296
-unfolding size
-size-small f s b = word-small f (20 + 8 * s) b
-
-and-right : (a b : Bool) → (a && b) ≡ true → b ≡ true
-and-right true b e = e
-and-right false true e = refl
-and-right false false e = e
-
-pub items-owned : (f : List ℕ) → owned f ≡ true → firstItem f (size f statements) ≡ size f lists
-unfolding owned
-items-owned f h = eqb-true (firstItem f (size f statements)) (size f lists) (and-right (eqb (firstPhi f (size f blocks)) (size f phis) && eqb (firstStmt f (size f blocks)) (size f statements) && eqb (firstInput f (size f phis)) (size f inputs)) (eqb (firstItem f (size f statements)) (size f lists)) h)
-
+-- ---- items: the sums that the code makes of them
 pub item-turn : (f : List ℕ) (i at x y : ℕ) → at ≡ firstItem f i → x ≡ exprItems f i → y ≡ valueItems f i → at + x + y ≡ firstItem f (i + 1)
-unfolding firstItem items
-item-turn f i at x y h p q =
-    let k : at + x + y ≡ at + (x + y) = omega arith in
-    k ∙ sum-turn (items f) i at (x + y) h (ap₂ (λ (a b : ℕ). a + b) p q)
+item-turn f i at x y h p q = omega (arith, first-turn f i h (both-items f i x y p q))
 
-pub items-inside : (f : List ℕ) (i : ℕ) → owned f ≡ true → i < size f statements → firstItem f (i + 1) ≤ size f lists
-unfolding firstItem
-items-inside f i h k = let e = items-owned f h in let l = sum-le (items f) (i + 1) (size f statements) (omega arith) in omega arith
+module _ (f : List ℕ) (i at x : ℕ) (bytes : (k : ℕ) → Fits w8 (getD f k 0)) (pre : (owned f ≡ true) × (i < size f statements) × (at ≡ firstItem f i)) (q : x ≡ exprItems f i) where
+  few : firstItem f (size f statements) < 4294967296
+  few = items-few f bytes (pre .0)
 
--- the expressions alone
-pub items-least : (f : List ℕ) (i at x : ℕ) → owned f ≡ true → i < size f statements → at ≡ firstItem f i → x ≡ exprItems f i → at + x ≤ size f lists
-items-least f i at x h k p q =
-    let e = item-turn f i at x (valueItems f i) p q refl in
-    let l = items-inside f i h k in
-    omega arith
+  pub exprs-small : at + x < 4294967296
+  exprs-small = omega (arith, exprs-fit f few i refl (pre .1) (pre .2))
 
--- the sums that the code makes of them fit a word
-module _ (f : List ℕ) (i at x : ℕ) (bytes : (k : ℕ) → getD f k 0 < 256) (pre : (owned f ≡ true) × (i < size f statements) × (at ≡ firstItem f i)) (q : x ≡ exprItems f i) where
-  pub exprs-fit : at + x < 4294967296
-  exprs-fit = omega (arith, items-least f i at x (pre .0) (pre .1) (pre .2) q, size-small f lists bytes)
-
-  pub items-fit : (n : ℕ) → n ≡ valueItems f i → at + x + n < 4294967296
-  items-fit n r = omega (arith, item-turn f i at x n (pre .2) q r, items-inside f i (pre .0) (pre .1), size-small f lists bytes)
-
-pub first-item : (f : List ℕ) → 0 ≡ firstItem f 0
-unfolding firstItem
-first-item f = sum-start (items f)
-
-pub first-small : (f : List ℕ) (i n : ℕ) → ((k : ℕ) → getD f k 0 < 256) → owned f ≡ true → n ≡ size f statements → i ≤ n → firstItem f i < 4294967296
-unfolding firstItem
-first-small f i n b h e k =
-    let l : sumBelow i (items f) ≤ sumBelow (size f statements) (items f) = sum-le (items f) i (size f statements) (omega arith) in
-    omega (arith, items-owned f h, size-small f lists b)
+  pub items-small : (n : ℕ) → n ≡ valueItems f i → at + x + n < 4294967296
+  items-small n r = omega (arith, items-fit f few i refl (pre .1) (pre .2), both-items f i x n q r)

@@ -1,5 +1,5 @@
 // No argument and no block start stands twice, none of the arguments is RSP, and the names rise.
-use crate::register::Register;
+use crate::value::RSP;
 use records::contents::ARGS;
 use records::contents::BLOCKS;
 use records::contents::NAMES;
@@ -51,7 +51,7 @@ pub fn args_spare_rsp(f: &[u8]) -> bool
     let n = size_of(f, ARGS);
     let mut i = 0;
     while i < n {
-        if arg_at(f, i) == Register::RSP.n {
+        if arg_at(f, i) == RSP {
             return false;
         }
         i += 1;

@@ -1,7 +1,6 @@
-// Check 6: bits, registers, args, block starts, names and definitions; and the register itself.
+// Check 6: bits, registers, args, block starts, names and definitions.
 pub mod distinct;
 pub mod meaning;
-pub mod named;
 pub mod once;
-pub mod register;
+pub mod registers_named;
 pub mod value;

@@ -18,6 +18,11 @@ ghost use Rattle.definition.specs.Values.{eqv};
 ghost use Rattle.definition.specs.Meaning.{phiValue, assigned, callReturns};
 ghost use Rattle.meaning.specs.Defined.{valueOf, listOf, itemValue};
 
+// How many register families there are, and the stack pointer's number.
+pub const REGISTERS: u32 = 16;
+
+pub const RSP: u32 = 4;
+
 pub struct Value {
     pub reg: u32,
     pub ver: u32,

@@ -1,4 +1,4 @@
-// A statement's kind and fields, and how many list items it owns.
+// The kinds of statements and the tags of expressions; a statement's kind and fields, and how many list items it owns.
 use crate::contents::block_word;
 use crate::contents::phi_word;
 use crate::contents::stmt_word;
@@ -20,6 +20,19 @@ pub const FLAGS: u32 = 5;
 pub const RETURN: u32 = 6;
 
 pub const OTHER: u32 = 7;
+
+// The tags of expressions.
+pub const CONST: u32 = 1;
+
+pub const USE: u32 = 2;
+
+pub const BIN: u32 = 3;
+
+pub const UN: u32 = 4;
+
+pub const LOAD: u32 = 5;
+
+pub const OPAQUE: u32 = 6;
 
 pub fn stmt_kind(f: &[u8], i: u32) -> u32
     ensures { λ r. ⌜ r ≡ stmtKind (now (f .entry)) i ⌝ }

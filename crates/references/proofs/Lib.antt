@@ -1,4 +1,3 @@
-pub mod Below
 pub mod Tally
 pub mod Naming
 pub mod Sound

@@ -7,14 +7,13 @@ use native.Mathlib.Decide.{ℕ-discrete}
 use native.Mathlib.Omega.{arith}
 use lib.Dec.{eqb, ltb}
 use borrow.Author.Tests.{ne-eqb, lt-ltb, le-ltb}
-use Rattle.definition.specs.Edition.{statements, expressions}
+use Rattle.definition.specs.Edition.{expressions}
 use Rattle.definition.specs.Contents.{size, itemWord, exprWord}
-use Rattle.definition.specs.Lists.{all, range, sumBelow}
-use Rattle.definition.specs.Owners.{stmtKind, stmtField, exprItems, items, firstItem}
+use Rattle.definition.specs.Lists.{all, range}
+use Rattle.definition.specs.Owners.{stmtKind, stmtField, exprItems, firstItem}
 use Rattle.definition.specs.References.{children, roots, itemExprs, childrenLower, rootsInside}
 use Rattle.references.specs.Named.{childCount, childAt, rootCount, rootAt}
 use Rattle.references.specs.Tally.{tally}
-use Rattle.references.proofs.Below.{sum-turn, sum-inside}
 
 -- ---- children, by the tag that was read
 module _ (f : List ℕ) (i t : ℕ) (tag : t ≡ exprWord f i 0) where
@@ -169,26 +168,3 @@ children-start f i n t e = let s : n - 0 ≡ n = omega arith in rw (s, e) (ap (t
 pub roots-start : (f : List ℕ) (i first n : ℕ) (t : List ℕ) → first ≡ firstItem f i → n ≡ rootCount f i
     → tally t (roots f i) ≡ tally t (map (rootAt f i first) (range 0 (n - 0)))
 roots-start f i first n t p e = let s : n - 0 ≡ n = omega arith in rw (s, e, p) (ap (tally t) (roots-are f i))
-
--- ---- the first item of each statement
-pub first-start : (f : List ℕ) → 0 ≡ firstItem f 0
-unfolding firstItem sumBelow
-first-start f = refl
-
-pub first-turn : (f : List ℕ) (i a m : ℕ) → a ≡ firstItem f i → m ≡ items f i → a + m ≡ firstItem f (i + 1)
-unfolding firstItem
-first-turn f i a m p q = rw (p, q) (sum-turn (items f) i)
-
-exprs-few : (f : List ℕ) (i : ℕ) → exprItems f i ≤ items f i
-unfolding items
-exprs-few f i = omega arith
-
--- where the items of all statements are few, so are those of each
-module _ (f : List ℕ) (n i first : ℕ) (here : i < n) (is : first ≡ firstItem f i) (count : n ≡ size f statements)
-    (few : firstItem f (size f statements) < 4294967296) where
-  pub items-fit : first + items f i < 4294967296
-  unfolding firstItem
-  items-fit = omega (arith, sum-inside (items f) (size f statements) i (omega arith))
-
-  pub exprs-fit : first + exprItems f i ≤ 4294967296
-  exprs-fit = omega (arith, items-fit, exprs-few f i)

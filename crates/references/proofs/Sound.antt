@@ -2,26 +2,24 @@
 use mathlib.Core.Path.{_≡_, refl, sym, ap, ap₂, _∙_}
 use mathlib.Core.Bool.{Bool, true, false, not, _&&_, and-true, and-false}
 use mathlib.Core.List.{List, _++_}
-use Prim.Native.Nat.{ℕ, suc, _+_, _*_, _-_, _≤_, _<_}
-use native.Mathlib.Decide.{decLt}
+use Prim.Native.Nat.{ℕ, suc, _+_, _-_, _≤_, _<_}
 use native.Mathlib.Numerals.{add-one}
 use native.Mathlib.Omega.{arith}
 use lib.Dec.{eqb, leb}
 use lib.ListN.{length, getD, replicate, length-replicate, drop-of-length-le}
 use lib.Seq.{drop-cons, take-nil}
-use borrow.Author.Tests.{eq-eqb, ne-eqb, le-leb, lt-leb, eqb-true, not-false}
-use Rattle.definition.specs.Edition.{Edition, blocks, phis, inputs, statements, lists, expressions, names}
-use Rattle.words.proofs.Laws.{word-in, word-out}
-use Rattle.definition.specs.Words.{part, word}
-use Rattle.definition.specs.Contents.{contents, offset, size, text, textAt, exprWord, nameWord}
+use borrow.Author.Tests.{eq-eqb, ne-eqb, le-leb, lt-leb}
+use Rattle.definition.specs.Edition.{Edition, statements, expressions, names}
+use Rattle.definition.specs.Words.{part}
+use Rattle.definition.specs.Contents.{offset, size, text, textAt, exprWord, nameWord}
 use Rattle.definition.specs.Lists.{all, count, gather, range, allBelow}
-use Rattle.definition.specs.Owners.{stmtKind, stmtField, firstPhi, firstStmt, firstInput, firstItem}
-use Rattle.definition.specs.Shape.{adjoin, owned, shaped, refused4}
+use Rattle.definition.specs.Owners.{stmtKind, stmtField}
 use Rattle.definition.specs.References.{inText, printable, nameSound, stmtText, exprText, childrenLower, rootsInside}
 use Rattle.definition.specs.References.{roots, children, mentions, ownedOnce, refused5}
 use Rattle.references.specs.Named.{stmtSound, exprSound}
 use Rattle.references.specs.Tally.{ownersAt, tally, Answered}
-use Rattle.references.proofs.Below.{all-both}
+use Rattle.records.proofs.Below.{all-both}
+use Rattle.records.proofs.Also.{also}
 use Rattle.references.proofs.Tally.{both-runs, tally-keeps, tally-once}
 
 -- ---- bytes
@@ -117,21 +115,13 @@ module _ (E : Edition) (f : List ℕ) (i t : ℕ) (tag : t ≡ exprWord f i 0) w
   plain-text a b c = rw (← tag, ne-eqb t 3 a, ne-eqb t 4 b, ne-eqb t 6 c)
 
 -- ---- records
-pub stmt-bad : (E : Edition) (f : List ℕ) (i : ℕ) (t : Bool) → t ≡ stmtText E f i → t ≡ false → false ≡ stmtSound E f i
-unfolding stmtSound
-stmt-bad E f i t p e = rw (← p, e)
+pub stmt-both : (E : Edition) (f : List ℕ) (i : ℕ) → also (stmtText E f i) (rootsInside f i) ≡ stmtSound E f i
+unfolding stmtSound also
+stmt-both E f i = refl
 
-pub stmt-good : (E : Edition) (f : List ℕ) (i : ℕ) (t r : Bool) → t ≡ stmtText E f i → t ≡ true → r ≡ rootsInside f i → r ≡ stmtSound E f i
-unfolding stmtSound
-stmt-good E f i t r p e h = rw (← p, e) h
-
-pub expr-bad : (E : Edition) (f : List ℕ) (i : ℕ) (t : Bool) → t ≡ exprText E f i → t ≡ false → false ≡ exprSound E f i
-unfolding exprSound
-expr-bad E f i t p e = rw (← p, e)
-
-pub expr-good : (E : Edition) (f : List ℕ) (i : ℕ) (t r : Bool) → t ≡ exprText E f i → t ≡ true → r ≡ childrenLower f i → r ≡ exprSound E f i
-unfolding exprSound
-expr-good E f i t r p e h = rw (← p, e) h
+pub expr-both : (E : Edition) (f : List ℕ) (i : ℕ) → also (exprText E f i) (childrenLower f i) ≡ exprSound E f i
+unfolding exprSound also
+expr-both E f i = refl
 
 -- ---- owners
 -- the table emptied, tallied over statements and expressions, looked at, and emptied again
@@ -158,92 +148,34 @@ module _ (f t t₁ t₂ t₃ t₄ : List ℕ) (n : ℕ) (r : Bool)
   pub once-answer : Answered (ownedOnce f) r t t₄
   once-answer = record { says = once-says; left = once-left }
 
-and-right : (a b : Bool) → (a && b) ≡ true → b ≡ true
-and-right true b e = e
-and-right false true e = refl
-and-right false false e = e
+-- ---- the whole check: its tests in order
+abbrev sound : Edition → List ℕ → Bool
+sound E f =
+    also (all printable (textAt E f 0 (size f (text E)))) (also (allBelow (size f names) (nameSound E f))
+    (also (allBelow (size f statements) (stmtSound E f)) (also (allBelow (size f expressions) (exprSound E f)) (ownedOnce f))))
 
-and-left : (a b : Bool) → (a && b) ≡ true → a ≡ true
-and-left true b e = refl
-and-left false b e = e
-
--- what the check before this one has seen
-pub shape-owned : (E : Edition) (f : List ℕ) → refused4 E f ≡ false → owned f ≡ true
-unfolding refused4
-shape-owned E f h =
-    let adjoining = adjoin f (contents E) 0 (E .sections) in
-    and-right adjoining (owned f) (and-left (adjoining && owned f) (shaped f) (not-false _ h))
-
-owned-lists : (f : List ℕ) → owned f ≡ true → firstItem f (size f statements) ≡ size f lists
-unfolding owned
-owned-lists f h =
-    let others = eqb (firstPhi f (size f blocks)) (size f phis) && eqb (firstStmt f (size f blocks)) (size f statements)
-    && eqb (firstInput f (size f phis)) (size f inputs) in
-    eqb-true (firstItem f (size f statements)) (size f lists) (and-right others (eqb (firstItem f (size f statements)) (size f lists)) h)
-
--- a number of four bytes
-word-below : (f : List ℕ) → ((j : ℕ) → getD f j 0 < 256) → (i : ℕ) → word f i < 4294967296
-word-below f h i = go (decLt (length f) (i + 4))
+sound-is : (E : Edition) (f : List ℕ) → not (sound E f) ≡ refused5 E f
+unfolding refused5 stmtSound exprSound also
+sound-is E f =
+    let a = all printable (textAt E f 0 (size f (text E))) in
+    let b = allBelow (size f names) (nameSound E f) in
+    sym (shuffle a b _ _ _ _ (ownedOnce f)
+    ∙ ap₂ (λ (s x : Bool). not (a && (b && (s && (x && ownedOnce f)))))
+    (all-both (stmtText E f) (rootsInside f) (size f statements)) (all-both (exprText E f) (childrenLower f) (size f expressions)))
   where
-    go : Dec (length f < i + 4) → word f i < 4294967296
-    go (yes k) = omega (arith, word-out f i k)
-    go (no k) = omega (arith, word-in f i (omega arith), h i, h (i + 1), h (i + 2), h (i + 3))
+    shuffle : (a b c d l r g : Bool) → not (a && b && c && d && l && r && g) ≡ not (a && (b && ((c && r) && ((d && l) && g))))
+    shuffle false b c d l r g = refl
+    shuffle true false c d l r g = refl
+    shuffle true true false d l r g = refl
+    shuffle true true true false l true g = refl
+    shuffle true true true false l false g = refl
+    shuffle true true true true false true g = refl
+    shuffle true true true true false false g = refl
+    shuffle true true true true true true g = refl
+    shuffle true true true true true false g = refl
 
-size-below : (f : List ℕ) → ((j : ℕ) → getD f j 0 < 256) → (s : ℕ) → size f s < 4294967296
-unfolding size
-size-below f h s = word-below f h (20 + 8 * s)
+pub refuse : (E : Edition) (f : List ℕ) → false ≡ sound E f → true ≡ refused5 E f
+refuse E f e = ap not e ∙ sound-is E f
 
-pub items-few : (f : List ℕ) → ((j : ℕ) → getD f j 0 < 256) → owned f ≡ true → firstItem f (size f statements) < 4294967296
-items-few f h e = omega (arith, owned-lists f e, size-below f h lists)
-
--- ---- the whole check
-module _ (E : Edition) (f : List ℕ) where
-  whole : Bool → Bool → Bool → Bool → Bool → Bool
-  whole a b s x g = not (a && (b && (s && (x && g))))
-
-  shuffle : (a b c d l r g : Bool) → not (a && b && c && d && l && r && g) ≡ whole a b (c && r) (d && l) g
-  unfolding whole
-  shuffle false b c d l r g = refl
-  shuffle true false c d l r g = refl
-  shuffle true true false d l r g = refl
-  shuffle true true true false l true g = refl
-  shuffle true true true false l false g = refl
-  shuffle true true true true false true g = refl
-  shuffle true true true true false false g = refl
-  shuffle true true true true true true g = refl
-  shuffle true true true true true false g = refl
-
-  check-is : refused5 E f
-      ≡ whole (all printable (textAt E f 0 (size f (text E)))) (allBelow (size f names) (nameSound E f))
-      (allBelow (size f statements) (stmtSound E f)) (allBelow (size f expressions) (exprSound E f)) (ownedOnce f)
-  unfolding refused5 stmtSound exprSound
-  check-is =
-      let a = all printable (textAt E f 0 (size f (text E))) in
-      let b = allBelow (size f names) (nameSound E f) in
-      shuffle a b _ _ _ _ (ownedOnce f)
-      ∙ ap₂ (λ (s x : Bool). whole a b s x (ownedOnce f))
-      (all-both (stmtText E f) (rootsInside f) (size f statements)) (all-both (exprText E f) (childrenLower f) (size f expressions))
-
-  module _ (a : Bool) (ea : a ≡ all printable (textAt E f 0 (size f (text E)))) where
-    pub bad-text : a ≡ false → true ≡ refused5 E f
-    unfolding whole
-    bad-text p = sym (check-is ∙ rw (← ea, p))
-
-    module _ (pa : a ≡ true) (b : Bool) (eb : b ≡ allBelow (size f names) (nameSound E f)) where
-      pub bad-names : b ≡ false → true ≡ refused5 E f
-      unfolding whole
-      bad-names p = sym (check-is ∙ rw (← ea, pa, ← eb, p))
-
-      module _ (pb : b ≡ true) (s : Bool) (es : s ≡ allBelow (size f statements) (stmtSound E f)) where
-        pub bad-stmts : s ≡ false → true ≡ refused5 E f
-        unfolding whole
-        bad-stmts p = sym (check-is ∙ rw (← ea, pa, ← eb, pb, ← es, p))
-
-        module _ (ps : s ≡ true) (x : Bool) (ex : x ≡ allBelow (size f expressions) (exprSound E f)) where
-          pub bad-exprs : x ≡ false → true ≡ refused5 E f
-          unfolding whole
-          bad-exprs p = sym (check-is ∙ rw (← ea, pa, ← eb, pb, ← es, ps, ← ex, p))
-
-          pub owners-decide : (g : Bool) → x ≡ true → g ≡ ownedOnce f → not g ≡ refused5 E f
-          unfolding whole
-          owners-decide g p q = sym (check-is ∙ rw (← ea, pa, ← eb, pb, ← es, ps, ← ex, p, ← q))
+pub last : (E : Edition) (f : List ℕ) (t : Bool) → t ≡ sound E f → not t ≡ refused5 E f
+last E f t e = ap not e ∙ sound-is E f

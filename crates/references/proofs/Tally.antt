@@ -11,7 +11,7 @@ use lib.Seq.{getD-set-same, getD-set-other, set-out, ext-getD}
 use borrow.Author.Tests.{eq-eqb, ne-eqb}
 use Rattle.definition.specs.Lists.{count, gather, range, allBelow}
 use Rattle.references.specs.Tally.{ownersAt, more, mentioned, tally}
-use Rattle.references.proofs.Below.{all-same}
+use Rattle.records.proofs.Below.{all-same}
 
 -- ---- one mention
 pub more-none : (x : ℕ) → x ≡ 0 → 1 ≡ more x

@@ -2,9 +2,12 @@
 use records::contents::expr_word;
 use records::contents::item_word;
 use records::owners::ASSIGN;
+use records::owners::BIN;
 use records::owners::FLAGS;
+use records::owners::LOAD;
 use records::owners::RETURN;
 use records::owners::STORE;
+use records::owners::UN;
 use records::owners::expr_items;
 use records::owners::stmt_field;
 use records::owners::stmt_kind;
@@ -12,15 +15,6 @@ ghost use mathlib.Core.Path.{_≡_};
 ghost use Prim.Native.Nat.{_+_, _≤_, _<_};
 ghost use Rattle.definition.specs.Owners.{exprItems};
 ghost use Rattle.references.specs.Named.{childCount, childAt, rootCount, rootAt};
-
-// The tags of expressions that have texts or children.
-pub const BIN: u32 = 3;
-
-pub const UN: u32 = 4;
-
-pub const LOAD: u32 = 5;
-
-pub const OPAQUE: u32 = 6;
 
 pub fn child_count(f: &[u8], i: u32) -> u32
     ensures { λ r. ⌜ r ≡ childCount (now (f .entry)) i ⌝ }

@@ -1,7 +1,4 @@
 // Check 5: texts lie inside the text, children are lower than their parents, and every expression has one owner.
-use crate::named::BIN;
-use crate::named::OPAQUE;
-use crate::named::UN;
 use crate::named::child_at;
 use crate::named::child_count;
 use crate::named::root_at;
@@ -15,9 +12,12 @@ use records::contents::name_word;
 use records::contents::offset_of;
 use records::contents::size_of;
 use records::edition::Edition;
+use records::owners::BIN;
 use records::owners::BRANCH;
 use records::owners::CALL;
+use records::owners::OPAQUE;
 use records::owners::OTHER;
+use records::owners::UN;
 use records::owners::items_of;
 use records::owners::stmt_field;
 use records::owners::stmt_kind;

@@ -1,3 +1,3 @@
-pub mod Below
 pub mod Sections
 pub mod Shapes
+pub mod Unique

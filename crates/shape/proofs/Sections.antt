@@ -1,6 +1,6 @@
 -- Checks 2 and 3, and the sections of check 4, over plain lists: each loop goes on with the sections from s on.
 use mathlib.Core.Path.{_≡_, refl, sym, ap, _∙_}
-use mathlib.Core.Bool.{Bool, true, false, not, _&&_, _||_}
+use mathlib.Core.Bool.{Bool, true, false, not, _&&_, _||_, and-false}
 use mathlib.Core.List.{List, [], _∷_, map}
 use Prim.Native.Nat.{ℕ, suc, _+_, _*_, _-_, _/_, _≤_, _<_}
 use native.Mathlib.Decide.{decLe}
@@ -17,7 +17,7 @@ use Rattle.definition.specs.Shape.{refused2, tooMany, refused3, bytesOf, adjoin
 use Rattle.records.specs.declared.edition.Edition.{Edition}
 use Rattle.records.specs.Editions.{wordsAt, limitAt, sectionAt, editionOf}
 use Rattle.shape.specs.Shapes.{bytesIn, follows}
-use Rattle.shape.proofs.Below.{and-both}
+use Rattle.records.proofs.Also.{and-both}
 
 pub refused2-is : (e : Edition) (f : List ℕ) (n a b : ℕ) → n ≡ contents (editionOf e) → a ≡ word f 0 → b ≡ word f 12
     → (ltb (length f) n || not (eqb a (e .number)) || not (eqb b 0)) ≡ refused2 (editionOf e) f
@@ -115,11 +115,7 @@ and-fails false b c e k = refl
 adjoin-past : (f : List ℕ) (from s : ℕ) (ts : List Section) → length f < from → adjoin f from s ts ≡ false
 unfolding adjoin
 adjoin-past f from s [] h = ne-eqb from (length f) (λ e. omega arith)
-adjoin-past f from s (t ∷ ts) h = rw (adjoin-past f (from + bytesOf t (size f s)) (s + 1) ts (omega arith)) (none (eqb (offset f s) from))
-  where
-    none : (a : Bool) → (a && false) ≡ false
-    none true = refl
-    none false = refl
+adjoin-past f from s (t ∷ ts) h = rw (adjoin-past f (from + bytesOf t (size f s)) (s + 1) ts (omega arith)) (and-false (eqb (offset f s) from))
 
 module _ (e : Edition) (f : List ℕ) where
   pub adjoin-short : (from : ℕ) → length f < from → from ≡ contents (editionOf e) → false ≡ adjoin f (contents (editionOf e)) 0 (editionOf e .sections)

@@ -1,16 +1,16 @@
 -- The rest of check 4, over plain lists and numbers: what is owned, and the words of each record.
-use mathlib.Core.Path.{_≡_, refl}
-use mathlib.Core.Bool.{Bool, true, false, not, cond, _&&_, _||_}
+use mathlib.Core.Path.{_≡_, refl, sym, ap, _∙_}
+use mathlib.Core.Bool.{Bool, true, false, not, cond, _&&_, _||_, and-assoc}
 use mathlib.Core.List.{List}
-use Prim.Native.Nat.{ℕ, _+_, _*_, _≤_, _<_}
-use native.Mathlib.Decide.{decLt}
+use Prim.Native.Nat.{ℕ, _+_, _<_}
 use native.Mathlib.Omega.{arith}
 use lib.Dec.{eqb, leb}
-use lib.ListN.{length, getD}
+use lib.ListN.{getD}
 use mir.Syntax.{w8}
 use mir.Val.{Fits}
-use borrow.Author.Tests.{ne-eqb, eqb-true}
-use Rattle.words.proofs.Laws.{word-out, word-in}
+use borrow.Author.Tests.{ne-eqb}
+use Rattle.records.proofs.Also.{also}
+use Rattle.records.proofs.Items.{items-few, items-fit}
 use Rattle.definition.specs.Codes.{kAssign, kStore, kCall, kBranch, kFlags, kReturn, kOther}
 use Rattle.definition.specs.Edition.{Edition, blocks, phis, inputs, statements, lists, expressions}
 use Rattle.definition.specs.Lists.{allBelow, sumBelow}
@@ -21,7 +21,6 @@ use Rattle.definition.specs.Shape.{bit, absent, adjoin, owned, blockShaped, phi
 use Rattle.shape.specs.declared.shape.Parts.{Parts}
 use Rattle.shape.specs.declared.shape.Parts.the-variants.{Phis, Stmts, Inputs, Items}
 use Rattle.shape.specs.Shapes.{partsOf, optional, blankTail, tagShaped, Cut}
-use Rattle.shape.proofs.Below.{and-both, sum-turn, sum-monotone}
 
 -- ---- what is owned
 pub owned-is : (f : List ℕ) (b p i s l : ℕ) (w x y z : Bool) → b ≡ size f blocks → p ≡ size f phis → i ≡ size f inputs → s ≡ size f statements → l ≡ size f lists
@@ -35,40 +34,9 @@ owned-is f b p i s l w x y z hb hp hi hs hl hw hx hy hz = rw (hw, hx, hy, hz, hb
 pub parts-is : (f : List ℕ) (p q : Parts) (i r : ℕ) → p ≡ q → r ≡ partsOf f q i → r ≡ partsOf f p i
 parts-is f p q i r e h = rw e h
 
--- a word of bytes has 32 bits
-word-small : (f : List ℕ) → ((k : ℕ) → Fits w8 (getD f k 0)) → (i : ℕ) → word f i < 4294967296
-word-small f given i = go (decLt (length f) (i + 4))
-  where
-    go : Dec (length f < i + 4) → word f i < 4294967296
-    go (yes h) = omega (arith, word-out f i h)
-    go (no h) = omega (arith, word-in f i (omega arith), given i, given (i + 1), given (i + 2), given (i + 3))
-
 -- where all is owned, the items of each statement have 32-bit numbers
-all-items : (f : List ℕ) → owned f ≡ true → firstItem f (size f statements) ≡ size f lists
-unfolding owned
-all-items f h =
-    eqb-true (firstItem f (size f statements)) (size f lists)
-    (and-both (eqb (firstPhi f (size f blocks)) (size f phis) && eqb (firstStmt f (size f blocks)) (size f statements) && eqb (firstInput f (size f phis)) (size f inputs))
-    (eqb (firstItem f (size f statements)) (size f lists)) h .1)
-
-size-small : (f : List ℕ) → ((k : ℕ) → Fits w8 (getD f k 0)) → (s : ℕ) → size f s < 4294967296
-unfolding size
-size-small f given s = word-small f given (20 + 8 * s)
-
-pub cut-turn : (f : List ℕ) (i at n : ℕ) → at ≡ firstItem f i → n ≡ items f i → at + n ≡ firstItem f (i + 1)
-unfolding firstItem
-cut-turn f i at n p q = sum-turn (items f) i at n p q
-
-pub cut-at : (f : List ℕ) → ((k : ℕ) → Fits w8 (getD f k 0)) → owned f ≡ true → (i n at : ℕ) → n ≡ size f statements → i < n → at ≡ firstItem f i → Cut f i at
-unfolding firstItem
-cut-at f given all i n at p h q =
-    let k : i + 1 ≤ size f statements = omega arith in
-    let more = sum-monotone (items f) (i + 1) (size f statements) k in
-    record { first = q; within = omega (arith, more, cut-turn f i at (items f i) q refl, all-items f all, size-small f given lists) }
-
-pub first-cut : (f : List ℕ) → 0 ≡ firstItem f 0
-unfolding firstItem sumBelow
-first-cut f = refl
+pub cut-at : (f : List ℕ) → ((k : ℕ) → Fits w8 (getD f k 0)) → owned f ≡ true → (i : ℕ) {n at : ℕ} → n ≡ size f statements → i < n → at ≡ firstItem f i → Cut f i at
+cut-at f bytes all i count here is = record { first = is; within = items-fit f (items-few f bytes all) i count here is }
 
 -- ---- words that are there or not
 pub absent-is : (there w : ℕ) → (not (eqb there 0) || eqb w 0) ≡ absent there w
@@ -208,15 +176,15 @@ pub shaped-is : (f : List ℕ) (a : ℕ) (x y z u : Bool) → a ≡ word f 8 →
 unfolding shaped
 shaped-is f a x y z u p q r s t = rw (p, q, r, s, t)
 
-module _ (E : Edition) (f : List ℕ) (x : Bool) where
-  pub not-adjoining : x ≡ adjoin f (contents E) 0 (E .sections) → x ≡ false → true ≡ refused4 E f
-  unfolding refused4
-  not-adjoining p q = rw (← p, q)
+abbrev sound : Edition → List ℕ → Bool
+sound E f = also (adjoin f (contents E) 0 (E .sections)) (also (owned f) (shaped f))
 
-  pub not-owned : x ≡ adjoin f (contents E) 0 (E .sections) → x ≡ true → (y : Bool) → y ≡ owned f → y ≡ false → true ≡ refused4 E f
-  unfolding refused4
-  not-owned p q y r s = rw (← p, q, ← r, s)
+sound-is : (E : Edition) (f : List ℕ) → not (sound E f) ≡ refused4 E f
+unfolding refused4 also
+sound-is E f = ap not (sym (and-assoc (adjoin f (contents E) 0 (E .sections)) (owned f) (shaped f)))
 
-  pub refused4-is : x ≡ adjoin f (contents E) 0 (E .sections) → x ≡ true → (y z : Bool) → y ≡ owned f → y ≡ true → z ≡ shaped f → not z ≡ refused4 E f
-  unfolding refused4
-  refused4-is p q y z r s t = rw (← p, q, ← r, s, ← t)
+pub refuse : (E : Edition) (f : List ℕ) → false ≡ sound E f → true ≡ refused4 E f
+refuse E f e = ap not e ∙ sound-is E f
+
+pub last : (E : Edition) (f : List ℕ) (t : Bool) → t ≡ sound E f → not t ≡ refused4 E f
+last E f t e = ap not e ∙ sound-is E f

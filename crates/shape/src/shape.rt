@@ -15,12 +15,18 @@ use records::contents::size_of;
 use records::contents::stmt_word;
 use records::edition::Edition;
 use records::owners::ASSIGN;
+use records::owners::BIN;
 use records::owners::BRANCH;
 use records::owners::CALL;
+use records::owners::CONST;
 use records::owners::FLAGS;
+use records::owners::LOAD;
+use records::owners::OPAQUE;
 use records::owners::OTHER;
 use records::owners::RETURN;
 use records::owners::STORE;
+use records::owners::UN;
+use records::owners::USE;
 use records::owners::block_phis;
 use records::owners::block_stmts;
 use records::owners::expr_items;
@@ -330,19 +336,6 @@ fn stmt_shaped(f: &[u8], i: u32, at: u64) -> bool
 {
     (stmt_word(f, i, 2) <= 7) & fields_shaped(f, i) & items_shaped(f, i, at)
 }
-
-// The tags of expressions.
-pub const CONST: u32 = 1;
-
-pub const USE: u32 = 2;
-
-pub const BIN: u32 = 3;
-
-pub const UN: u32 = 4;
-
-pub const LOAD: u32 = 5;
-
-pub const OPAQUE: u32 = 6;
 
 // The fields of an expression of tag t: its first, and its last two.
 fn tag_shaped(t: u32, a: u32, c: u32, d: u32) -> bool

@@ -1,14 +1,17 @@
 -- What each return of the functions comes to, over plain lists: a number is the four bytes that stand at it, and a comparison goes on
 -- with the rests of both texts while their first bytes are equal.
-use mathlib.Core.Path.{_≡_, refl, sym, ap, ap₂, _∙_}
-use mathlib.Core.Bool.{Bool, true, false, _&&_, _||_}
+use mathlib.Core.Path.{_≡_, refl, sym, ap, _∙_}
+use mathlib.Core.Bool.{Bool, true, false, _&&_}
 use mathlib.Core.List.{List, [], _∷_}
-use Prim.Native.Nat.{ℕ, zero, suc, _+_, _*_, _-_, _≤_, _<_}
+use Prim.Native.Nat.{ℕ, suc, _+_, _*_, _≤_, _<_}
+use native.Mathlib.Decide.{decLt}
 use native.Mathlib.Numerals.{add-one}
 use native.Mathlib.Omega.{arith}
 use lib.Dec.{eqb}
 use lib.ListN.{length, drop, getD, length-drop, drop-of-length-le}
-use lib.Seq.{drop-cons, drop-length}
+use lib.Seq.{drop-cons}
+use mir.Syntax.{w8}
+use mir.Val.{Fits}
 use borrow.Author.Tests.{eq-eqb, ne-eqb}
 use Rattle.definition.specs.Words.{four, word, long}
 use Rattle.definition.specs.Texts.{same, begins, contains}
@@ -41,6 +44,14 @@ word-in f i h =
     (ap (λ (n : ℕ). drop n f) p ∙ drop-cons f (i + 1) 0 b ∙ ap (λ (l : List ℕ). getD f (i + 1) 0 ∷ l)
     (ap (λ (n : ℕ). drop n f) q ∙ drop-cons f (i + 2) 0 c ∙ ap (λ (l : List ℕ). getD f (i + 2) 0 ∷ l)
     (ap (λ (n : ℕ). drop n f) r ∙ drop-cons f (i + 3) 0 d))))
+
+-- of bytes
+pub word-small : (f : List ℕ) → ((k : ℕ) → Fits w8 (getD f k 0)) → (i : ℕ) → word f i < 4294967296
+word-small f bytes i = go (decLt (length f) (i + 4))
+  where
+    go : Dec (length f < i + 4) → word f i < 4294967296
+    go (yes h) = omega (arith, word-out f i h)
+    go (no h) = omega (arith, word-in f i (omega arith), bytes i, bytes (i + 1), bytes (i + 2), bytes (i + 3))
 
 -- the four bytes that the code read
 pub word-read : (f : List ℕ) (i a b c d : ℕ) → i + 4 ≤ length f → a ≡ getD f i 0 → b ≡ getD f (i + 1) 0 → c ≡ getD f (i + 2) 0 → d ≡ getD f (i + 3) 0

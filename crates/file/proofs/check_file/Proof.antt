@@ -6,7 +6,7 @@ use Rattle.definition.specs.Edition.{edition1}
 use Rattle.definition.specs.Shape.{refused2, refused3, refused4}
 use Rattle.definition.specs.References.{refused5}
 use Rattle.definition.specs.Meaning.{refused6}
-use Rattle.references.proofs.Sound.{shape-owned}
+use Rattle.records.proofs.Items.{shape-owned}
 use Rattle.file.proofs.Verdicts.{seen, few-expressions, by-2, by-3, by-4, by-5, by-6, by-none, not-lent, answered, untouched}
 use borrow.Author.Needs.{needs}
 use Rattle.file.proofs.check_file.Statement.{statement}

@@ -1,14 +1,11 @@
 use Rattle.words.proofs.Laws.{begins-short, begins-turn, begins-differ, begins-end, begins-past, begins-start}
 use Rattle.definition.specs.Texts.{begins}
-use native.Mathlib.Nat.{add-zero}
-use mathlib.Core.Path.{_≡_, refl, sym, _∙_, ap}
+use mathlib.Core.Path.{_≡_, sym, _∙_}
 use lib.ListN.{length, drop, length-drop}
 use native.Mathlib.Omega.{arith}
 use Prim.Native.Nat.{_+_, _-_, _≤_}
 use Rattle.words.proofs.begins_at.Statement.{statement}
 use Rattle.words.proofs.begins_at.Tie as tie
-use Rattle.words.proofs.begins_at.Reads as reads
-use Rattle.words.proofs.begins_at.Lts as lts
 
 abbrev Inv-loop : tie.InvT-loop
 Inv-loop w s i k₀ k = (begins w (drop i s) ≡ begins (drop k w) (drop (i + k) s)) × (k ≤ length w) × (i + length w ≤ length s)
@@ -16,51 +13,39 @@ Inv-loop w s i k₀ k = (begins w (drop i s) ≡ begins (drop k w) (drop (i + k)
 abbrev μ-loop : tie.MeasureT-loop
 μ-loop w s i k₀ k = length w - k
 
--- src/lib.rt:66:9
 returns : tie.Need-returns Inv-loop μ-loop
 returns c = begins-past (c .before .args .w .now) (c .before .args .s .now) (c .before .args .i) (omega arith)
 
--- src/lib.rt:68:8
 sub-if2 : tie.Need-sub-if2 Inv-loop μ-loop
 sub-if2 c = omega arith
 
--- src/lib.rt:69:9
 returns-2 : tie.Need-returns-2 Inv-loop μ-loop
 returns-2 c = begins-short (c .before .before .args .w .now) (drop (c .before .before .args .i) (c .before .before .args .s .now)) (omega (arith, length-drop (c .before .before .args .i) (c .before .before .args .s .now)))
 
--- src/lib.rt:72:5
 loop-holds : tie.Need-loop-holds Inv-loop μ-loop
 loop-holds c = (begins-start (c .before .before .args .w .now) (c .before .before .args .s .now) (c .before .before .args .i), omega arith, omega arith)
 
--- src/lib.rt:73:12
 shared-slice-read-if3 : tie.Need-shared-slice-read-if3 Inv-loop μ-loop
 shared-slice-read-if3 c = omega arith
 
--- src/lib.rt:73:22
 add-if3 : tie.Need-add-if3 Inv-loop μ-loop
 add-if3 c = omega arith
 
--- src/lib.rt:73:20
 shared-slice-read-if3-2 : tie.Need-shared-slice-read-if3-2 Inv-loop μ-loop
 shared-slice-read-if3-2 c = omega arith
 
--- src/lib.rt:74:13
 returns-3 : tie.Need-returns-3 Inv-loop μ-loop
 returns-3 c = let inv = c .before .before .before .before .loop .inv in begins-differ (c .before .before .before .before .before .before .before .args .w .now) (c .before .before .before .before .before .before .before .args .s .now) (c .before .before .before .before .before .before .before .args .i) (c .before .before .before .before .loop .k) (omega arith) (omega arith) (λ e. omega arith) ∙ sym (inv .0)
 
--- src/lib.rt:76:9
 add-k : tie.Need-add-k Inv-loop μ-loop
 add-k c = omega arith
 
--- src/lib.rt:72:5
 loop-less : tie.Need-loop-less Inv-loop μ-loop
 loop-less c = omega arith
 
--- src/lib.rt:72:5
 loop-again : tie.Need-loop-again Inv-loop μ-loop
 loop-again c = let inv = c .before .before .before .before .loop .inv in (inv .0 ∙ begins-turn (c .before .before .before .before .before .before .before .args .w .now) (c .before .before .before .before .before .before .before .args .s .now) (c .before .before .before .before .before .before .before .args .i) (c .before .before .before .before .loop .k) (omega arith) (omega arith) (omega arith), omega arith, omega arith)
 
--- src/lib.rt:62:1
 returns-4 : tie.Need-returns-4 Inv-loop μ-loop
 returns-4 c = let inv = c .before .loop .inv in begins-end (c .before .before .before .before .args .w .now) _ (c .before .loop .k) (omega arith) ∙ sym (inv .0)
 

@@ -7,9 +7,6 @@ use native.Mathlib.Omega.{arith}
 use Prim.Native.Nat.{_-_, _≤_}
 use Rattle.words.proofs.contains_text.Statement.{statement}
 use Rattle.words.proofs.contains_text.Tie as tie
-use Rattle.words.proofs.contains_text.Reads as reads
-use Rattle.words.proofs.contains_text.Lts as lts
-use Rattle.words.proofs.begins_at.Reads as begins-at-reads
 
 abbrev Inv-loop : tie.InvT-loop
 Inv-loop w s i₀ i = (contains w s ≡ contains w (drop i s)) × (i ≤ length s)
@@ -17,35 +14,27 @@ Inv-loop w s i₀ i = (contains w s ≡ contains w (drop i s)) × (i ≤ length 
 abbrev μ-loop : tie.MeasureT-loop
 μ-loop w s i₀ i = length s - i
 
--- src/lib.rt:86:5
 loop-holds : tie.Need-loop-holds Inv-loop μ-loop
 loop-holds c = (refl, omega arith)
 
--- src/lib.rt:87:12
 begins-at-requires : tie.Need-begins-at-requires Inv-loop μ-loop
 begins-at-requires c κs = search needs
 
--- src/lib.rt:88:13
 returns : tie.Need-returns Inv-loop μ-loop
 returns c = let inv = c .before .before .before .loop .inv in contains-hit (c .before .before .before .before .before .before .args .w .now) (c .before .before .before .before .before .before .args .s .now) (c .before .before .before .loop .i) (omega arith) (sym (c .before .begins-at .ensures) ∙ c .if1 .taken) ∙ sym (inv .0)
 
--- src/lib.rt:90:9
 add-i : tie.Need-add-i Inv-loop μ-loop
 add-i c = omega arith
 
--- src/lib.rt:86:5
 loop-less : tie.Need-loop-less Inv-loop μ-loop
 loop-less c = omega arith
 
--- src/lib.rt:86:5
 loop-again : tie.Need-loop-again Inv-loop μ-loop
 loop-again c = let inv = c .before .before .before .loop .inv in (inv .0 ∙ contains-turn (c .before .before .before .before .before .before .args .w .now) (c .before .before .before .before .before .before .args .s .now) (c .before .before .before .loop .i) (omega arith) (sym (c .before .begins-at .ensures) ∙ c .if1 .left), omega arith)
 
--- src/lib.rt:92:5
 begins-at-requires-2 : tie.Need-begins-at-requires-2 Inv-loop μ-loop
 begins-at-requires-2 c κs = search needs
 
--- src/lib.rt:82:1
 returns-2 : tie.Need-returns-2 Inv-loop μ-loop
 returns-2 c = let inv = c .before .before .loop .inv in c .begins-at2 .ensures ∙ contains-end (c .before .before .before .before .before .args .w .now) (c .before .before .before .before .before .args .s .now) (c .before .before .loop .i) (omega arith) ∙ sym (inv .0)
 

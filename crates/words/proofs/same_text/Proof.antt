@@ -6,8 +6,6 @@ use native.Mathlib.Omega.{arith}
 use Prim.Native.Nat.{_-_, _≤_}
 use Rattle.words.proofs.same_text.Statement.{statement}
 use Rattle.words.proofs.same_text.Tie as tie
-use Rattle.words.proofs.same_text.Reads as reads
-use Rattle.words.proofs.same_text.Lts as lts
 
 abbrev Inv-loop : tie.InvT-loop
 Inv-loop s t i₀ i = (same s t ≡ same (drop i s) (drop i t)) × (length s ≡ length t) × (i ≤ length s)
@@ -15,39 +13,30 @@ Inv-loop s t i₀ i = (same s t ≡ same (drop i s) (drop i t)) × (length s ≡
 abbrev μ-loop : tie.MeasureT-loop
 μ-loop s t i₀ i = length s - i
 
--- src/lib.rt:49:9
 returns : tie.Need-returns Inv-loop μ-loop
 returns c = same-length (c .before .args .s .now) (c .before .args .t .now) (λ e. omega arith)
 
--- src/lib.rt:52:5
 loop-holds : tie.Need-loop-holds Inv-loop μ-loop
 loop-holds c = (refl, omega arith, omega arith)
 
--- src/lib.rt:53:12
 shared-slice-read-if2 : tie.Need-shared-slice-read-if2 Inv-loop μ-loop
 shared-slice-read-if2 c = omega arith
 
--- src/lib.rt:53:20
 shared-slice-read-if2-2 : tie.Need-shared-slice-read-if2-2 Inv-loop μ-loop
 shared-slice-read-if2-2 c = omega arith
 
--- src/lib.rt:54:13
 returns-2 : tie.Need-returns-2 Inv-loop μ-loop
 returns-2 c = let inv = c .before .before .before .before .loop .inv in same-differ (c .before .before .before .before .before .before .args .s .now) (c .before .before .before .before .before .before .args .t .now) (c .before .before .before .before .loop .i) (omega arith) (omega arith) (λ e. omega arith) ∙ sym (inv .0)
 
--- src/lib.rt:56:9
 add-i : tie.Need-add-i Inv-loop μ-loop
 add-i c = omega arith
 
--- src/lib.rt:52:5
 loop-less : tie.Need-loop-less Inv-loop μ-loop
 loop-less c = omega arith
 
--- src/lib.rt:52:5
 loop-again : tie.Need-loop-again Inv-loop μ-loop
 loop-again c = let inv = c .before .before .before .before .loop .inv in (inv .0 ∙ same-turn (c .before .before .before .before .before .before .args .s .now) (c .before .before .before .before .before .before .args .t .now) (c .before .before .before .before .loop .i) (omega arith) (omega arith) (omega arith), omega arith, omega arith)
 
--- src/lib.rt:45:1
 returns-3 : tie.Need-returns-3 Inv-loop μ-loop
 returns-3 c = let inv = c .before .loop .inv in same-end (c .before .before .before .args .s .now) (c .before .before .before .args .t .now) (c .before .loop .i) (omega arith) (omega arith) ∙ sym (inv .0)
 

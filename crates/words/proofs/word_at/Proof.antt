@@ -3,87 +3,64 @@ use native.Mathlib.Omega.{arith}
 use borrow.Author.Needs.{needs}
 use Rattle.words.proofs.word_at.Statement.{statement}
 use Rattle.words.proofs.word_at.Tie as tie
-use Rattle.words.proofs.word_at.Reads as reads
-use Rattle.words.proofs.word_at.Lts as lts
-use Rattle.words.proofs.wide.Reads as wide-reads
 
--- src/lib.rt:20:9
 returns : tie.Need-returns
 returns c = word-out (c .before .before .args .f .now) (c .before .before .args .i) (omega arith)
 
--- src/lib.rt:23:9
 returns-2 : tie.Need-returns-2
 returns-2 c = word-out (c .before .before .before .args .f .now) (c .before .before .before .args .i) (omega arith)
 
--- src/lib.rt:25:10
 shared-slice-read-wide : tie.Need-shared-slice-read-wide
 shared-slice-read-wide c = search needs
 
--- src/lib.rt:25:5
 wide-requires : tie.Need-wide-requires
 wide-requires c κs = search needs
 
--- src/lib.rt:25:31
 add-wide : tie.Need-add-wide
 add-wide c = search needs
 
--- src/lib.rt:25:29
 shared-slice-read-wide-2 : tie.Need-shared-slice-read-wide-2
 shared-slice-read-wide-2 c = search needs
 
--- src/lib.rt:25:24
 wide-requires-2 : tie.Need-wide-requires-2
 wide-requires-2 c κs = search needs
 
--- src/lib.rt:25:18
 mul-result : tie.Need-mul-result
 mul-result c = search needs
 
--- src/lib.rt:25:5
 add-result : tie.Need-add-result
 add-result c = search needs
 
--- src/lib.rt:25:56
 add-wide-2 : tie.Need-add-wide-2
 add-wide-2 c = search needs
 
--- src/lib.rt:25:54
 shared-slice-read-wide-3 : tie.Need-shared-slice-read-wide-3
 shared-slice-read-wide-3 c = search needs
 
--- src/lib.rt:25:49
 wide-requires-3 : tie.Need-wide-requires-3
 wide-requires-3 c κs = search needs
 
--- src/lib.rt:25:41
 mul-result-2 : tie.Need-mul-result-2
 mul-result-2 c = search needs
 
--- src/lib.rt:25:5
 add-result-2 : tie.Need-add-result-2
 add-result-2 c = search needs
 
--- src/lib.rt:25:84
 add-wide-3 : tie.Need-add-wide-3
 add-wide-3 c = search needs
 
--- src/lib.rt:25:82
 shared-slice-read-wide-4 : tie.Need-shared-slice-read-wide-4
 shared-slice-read-wide-4 c = search needs
 
--- src/lib.rt:25:77
 wide-requires-4 : tie.Need-wide-requires-4
 wide-requires-4 c κs = search needs
 
--- src/lib.rt:25:66
 mul-result-3 : tie.Need-mul-result-3
 mul-result-3 c = search needs
 
--- src/lib.rt:25:5
 add-result-3 : tie.Need-add-result-3
 add-result-3 c = search needs
 
--- src/lib.rt:15:1
 returns-3 : tie.Need-returns-3
 returns-3 c = word-read (c .before .before .before .before .before .before .before .before .before .before .before .args .f .now) (c .before .before .before .before .before .before .before .before .before .before .before .args .i) _ _ _ _ (omega arith) (c .before .before .before .before .before .before .wide .ensures .0) (c .before .before .before .before .wide2 .ensures .0) (c .before .before .wide3 .ensures .0) (c .wide4 .ensures .0)
 

@@ -1,12 +1,11 @@
 use Prim.Native.Nat.{_≤_, _-_}
 use mathlib.Core.Bool.{true}
 use mathlib.Core.Path.{_≡_, sym, _∙_}
-use borrow.Author.Tests.{not-true, not-false}
 use borrow.Author.Needs.{needs}
 use native.Mathlib.Omega.{arith}
 use Rattle.definition.specs.Lists.{allBelow}
 use Rattle.meaning.proofs.Apart.{argNew, args-distinct}
-use Rattle.meaning.proofs.Below.{all-start, all-turn, all-fail, all-done}
+use Rattle.records.proofs.Below.{all-start, all-turn, all-fail, all-done}
 use Rattle.meaning.proofs.distinct.args_distinct.Statement.{statement}
 use Rattle.meaning.proofs.distinct.args_distinct.Tie as tie
 
@@ -26,7 +25,7 @@ arg-new-requires : tie.Need-arg-new-requires Inv-loop μ-loop
 arg-new-requires c κs = search needs
 
 returns : tie.Need-returns Inv-loop μ-loop
-returns c = all-fail (argNew (c .before .before .before .before .before .before .args .f .now)) _ _ _ _ (c .before .before .before .before .size-of .ensures) (c .before .arg-new .ensures) (c .before .before .loop-test .taken) (not-true _ (c .if1 .taken)) ∙ sym (args-distinct (c .before .before .before .before .before .before .args .f .now))
+returns c = all-fail _ (c .before .before .before .before .size-of .ensures) (c .before .arg-new .ensures) (c .before .before .loop-test .taken) (c .if1 .taken) ∙ sym (args-distinct _)
 
 add-i : tie.Need-add-i Inv-loop μ-loop
 add-i c = omega arith
@@ -35,10 +34,10 @@ loop-less : tie.Need-loop-less Inv-loop μ-loop
 loop-less c = omega arith
 
 loop-again : tie.Need-loop-again Inv-loop μ-loop
-loop-again c = (all-turn _ _ _ (c .before .arg-new .ensures) (c .before .before .before .loop .inv .0) (not-false _ (c .if1 .left)), omega arith)
+loop-again c = (all-turn _ (c .before .arg-new .ensures) (c .before .before .before .loop .inv .0) (c .if1 .left), omega arith)
 
 returns-2 : tie.Need-returns-2 Inv-loop μ-loop
-returns-2 c = all-done _ _ _ _ (c .before .before .size-of .ensures) (c .before .loop .inv .0) (omega arith) (omega arith) ∙ sym (args-distinct (c .before .before .before .before .args .f .now))
+returns-2 c = all-done _ (c .before .before .size-of .ensures) (c .before .loop .inv .0) (omega arith) ∙ sym (args-distinct _)
 
 pub args-distinct-spec : {M : Type 1} → statement M
 args-distinct-spec =

@@ -1,11 +1,11 @@
 use Prim.Native.Nat.{_≤_, _-_}
-use mathlib.Core.Bool.{true, false}
+use mathlib.Core.Bool.{true}
 use mathlib.Core.Path.{_≡_, refl, sym, _∙_}
 use borrow.Author.Needs.{needs}
 use native.Mathlib.Omega.{arith}
 use Rattle.definition.specs.Lists.{allBelow}
 use Rattle.meaning.proofs.Apart.{argSpares, args-spare, same-read, differ-read}
-use Rattle.meaning.proofs.Below.{all-start, all-turn, all-fail, all-done}
+use Rattle.records.proofs.Below.{all-start, all-turn, all-fail, all-done}
 use Rattle.meaning.proofs.distinct.args_spare_rsp.Statement.{statement}
 use Rattle.meaning.proofs.distinct.args_spare_rsp.Tie as tie
 
@@ -25,7 +25,7 @@ arg-at-requires : tie.Need-arg-at-requires Inv-loop μ-loop
 arg-at-requires c κs = search needs
 
 returns : tie.Need-returns Inv-loop μ-loop
-returns c = all-fail (argSpares (c .before .before .before .before .before .before .before .args .f .now)) _ _ _ false (c .before .before .before .before .before .size-of .ensures) (same-read 4 _ _ _ refl (c .before .before .arg-at .ensures) (sym (c .if1 .taken))) (c .before .before .before .loop-test .taken) refl ∙ sym (args-spare (c .before .before .before .before .before .before .before .args .f .now))
+returns c = all-fail _ (c .before .before .before .before .size-of .ensures) (same-read 4 _ _ _ refl (c .before .arg-at .ensures) (sym (c .if1 .taken))) (c .before .before .loop-test .taken) refl ∙ sym (args-spare _)
 
 add-i : tie.Need-add-i Inv-loop μ-loop
 add-i c = omega arith
@@ -34,10 +34,10 @@ loop-less : tie.Need-loop-less Inv-loop μ-loop
 loop-less c = omega arith
 
 loop-again : tie.Need-loop-again Inv-loop μ-loop
-loop-again c = (all-turn _ _ true (differ-read 4 _ _ _ refl (c .before .before .arg-at .ensures) (λ e. c .if1 .left (sym e))) (c .before .before .before .before .loop .inv .0) refl, omega arith)
+loop-again c = (all-turn _ (differ-read 4 _ _ _ refl (c .before .arg-at .ensures) (λ e. c .if1 .left (sym e))) (c .before .before .before .loop .inv .0) refl, omega arith)
 
 returns-2 : tie.Need-returns-2 Inv-loop μ-loop
-returns-2 c = all-done _ _ _ _ (c .before .before .size-of .ensures) (c .before .loop .inv .0) (omega arith) (omega arith) ∙ sym (args-spare (c .before .before .before .before .args .f .now))
+returns-2 c = all-done _ (c .before .before .size-of .ensures) (c .before .loop .inv .0) (omega arith) ∙ sym (args-spare _)
 
 pub args-spare-rsp-spec : {M : Type 1} → statement M
 args-spare-rsp-spec =

@@ -1,12 +1,11 @@
 use Prim.Native.Nat.{_≤_, _-_}
 use mathlib.Core.Bool.{true}
 use mathlib.Core.Path.{_≡_, refl, sym, _∙_}
-use borrow.Author.Tests.{not-true, not-false}
 use borrow.Author.Needs.{needs}
 use native.Mathlib.Omega.{arith}
 use Rattle.definition.specs.Lists.{allBelow}
 use Rattle.meaning.proofs.Apart.{nameRises, names-rise, no-names}
-use Rattle.meaning.proofs.Below.{all-start, all-turn, all-fail, all-done}
+use Rattle.records.proofs.Below.{all-start, all-turn, all-fail, all-done}
 use Rattle.meaning.proofs.distinct.names_rise.Statement.{statement}
 use Rattle.meaning.proofs.distinct.names_rise.Tie as tie
 
@@ -32,7 +31,7 @@ name-rises-requires : tie.Need-name-rises-requires Inv-loop μ-loop
 name-rises-requires c κs = omega arith
 
 returns-2 : tie.Need-returns-2 Inv-loop μ-loop
-returns-2 c = all-fail (nameRises (c .before .before .before .before .before .before .before .args .f .now)) _ _ _ _ refl (c .before .name-rises .ensures) (c .before .before .loop-test .taken) (not-true _ (c .if2 .taken)) ∙ sym (names-rise (c .before .before .before .before .before .before .before .args .f .now) _ (c .before .before .before .before .before .size-of .ensures))
+returns-2 c = all-fail _ refl (c .before .name-rises .ensures) (c .before .before .loop-test .taken) (c .if2 .taken) ∙ sym (names-rise _ _ (c .before .before .before .before .before .size-of .ensures))
 
 add-i : tie.Need-add-i Inv-loop μ-loop
 add-i c = omega arith
@@ -41,10 +40,10 @@ loop-less : tie.Need-loop-less Inv-loop μ-loop
 loop-less c = omega arith
 
 loop-again : tie.Need-loop-again Inv-loop μ-loop
-loop-again c = (all-turn _ _ _ (c .before .name-rises .ensures) (c .before .before .before .loop .inv .0) (not-false _ (c .if2 .left)), omega arith)
+loop-again c = (all-turn _ (c .before .name-rises .ensures) (c .before .before .before .loop .inv .0) (c .if2 .left), omega arith)
 
 returns-3 : tie.Need-returns-3 Inv-loop μ-loop
-returns-3 c = all-done _ _ _ _ refl (c .before .loop .inv .0) (omega arith) (omega arith) ∙ sym (names-rise (c .before .before .before .before .before .args .f .now) _ (c .before .before .before .size-of .ensures))
+returns-3 c = all-done _ refl (c .before .loop .inv .0) (omega arith) ∙ sym (names-rise _ _ (c .before .before .before .size-of .ensures))
 
 pub names-rise-spec : {M : Type 1} → statement M
 names-rise-spec =

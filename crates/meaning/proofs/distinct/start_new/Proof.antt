@@ -1,11 +1,11 @@
 use Prim.Native.Nat.{_≤_, _-_}
-use mathlib.Core.Bool.{true, false}
+use mathlib.Core.Bool.{true}
 use mathlib.Core.Path.{_≡_, refl}
 use borrow.Author.Needs.{needs}
 use native.Mathlib.Omega.{arith}
 use Rattle.definition.specs.Lists.{allBelow}
 use Rattle.meaning.proofs.Apart.{startApart, same-read, differ-read}
-use Rattle.meaning.proofs.Below.{all-start, all-turn, all-fail, all-done}
+use Rattle.records.proofs.Below.{all-start, all-turn, all-fail, all-done}
 use Rattle.meaning.proofs.distinct.start_new.Statement.{statement}
 use Rattle.meaning.proofs.distinct.start_new.Tie as tie
 
@@ -25,7 +25,7 @@ block-long-requires-2 : tie.Need-block-long-requires-2 Inv-loop μ-loop
 block-long-requires-2 c κs = search needs
 
 returns : tie.Need-returns Inv-loop μ-loop
-returns c = all-fail (startApart (c .before .before .before .before .before .before .args .f .now) (c .before .before .before .before .before .before .args .i)) _ _ _ false refl (same-read _ _ _ _ (c .before .before .before .before .block-long .ensures) (c .before .block-long2 .ensures) (c .if1 .taken)) (c .before .before .loop-test .taken) refl
+returns c = all-fail _ refl (same-read _ _ _ _ (c .before .before .before .before .block-long .ensures) (c .before .block-long2 .ensures) (c .if1 .taken)) (c .before .before .loop-test .taken) refl
 
 add-j : tie.Need-add-j Inv-loop μ-loop
 add-j c = omega arith
@@ -34,10 +34,10 @@ loop-less : tie.Need-loop-less Inv-loop μ-loop
 loop-less c = omega arith
 
 loop-again : tie.Need-loop-again Inv-loop μ-loop
-loop-again c = (all-turn _ _ true (differ-read _ _ _ _ (c .before .before .before .before .block-long .ensures) (c .before .block-long2 .ensures) (c .if1 .left)) (c .before .before .before .loop .inv .0) refl, omega arith)
+loop-again c = (all-turn _ (differ-read _ _ _ _ (c .before .before .before .before .block-long .ensures) (c .before .block-long2 .ensures) (c .if1 .left)) (c .before .before .before .loop .inv .0) refl, omega arith)
 
 returns-2 : tie.Need-returns-2 Inv-loop μ-loop
-returns-2 c = all-done _ _ _ _ refl (c .before .loop .inv .0) (omega arith) (omega arith)
+returns-2 c = all-done _ refl (c .before .loop .inv .0) (omega arith)
 
 pub start-new-spec : {M : Type 1} → statement M
 start-new-spec =

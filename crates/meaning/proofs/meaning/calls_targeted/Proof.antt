@@ -1,13 +1,12 @@
 use Prim.Native.Nat.{_≤_, _-_}
 use mathlib.Core.Bool.{true}
 use mathlib.Core.Path.{_≡_}
-use borrow.Author.Tests.{not-true, not-false}
 use borrow.Author.Needs.{needs}
 use native.Mathlib.Omega.{arith}
 use Rattle.definition.specs.Meaning.{targeted}
 use Rattle.definition.specs.Lists.{allBelow}
 use Rattle.records.specs.Editions.{editionOf}
-use Rattle.meaning.proofs.Below.{all-start, all-turn, all-fail, all-done}
+use Rattle.records.proofs.Below.{all-start, all-turn, all-fail, all-done}
 use Rattle.meaning.proofs.meaning.calls_targeted.Statement.{statement}
 use Rattle.meaning.proofs.meaning.calls_targeted.Tie as tie
 
@@ -27,7 +26,7 @@ call-targeted-requires : tie.Need-call-targeted-requires Inv-loop μ-loop
 call-targeted-requires c κs = search needs
 
 returns : tie.Need-returns Inv-loop μ-loop
-returns c = all-fail (targeted (editionOf (c .before .before .before .before .before .before .args .e)) (c .before .before .before .before .before .before .args .f .now)) _ _ _ _ (c .before .before .before .before .size-of .ensures) (c .before .call-targeted .ensures) (c .before .before .loop-test .taken) (not-true _ (c .if1 .taken))
+returns c = all-fail _ (c .before .before .before .before .size-of .ensures) (c .before .call-targeted .ensures) (c .before .before .loop-test .taken) (c .if1 .taken)
 
 add-i : tie.Need-add-i Inv-loop μ-loop
 add-i c = omega arith
@@ -36,10 +35,10 @@ loop-less : tie.Need-loop-less Inv-loop μ-loop
 loop-less c = omega arith
 
 loop-again : tie.Need-loop-again Inv-loop μ-loop
-loop-again c = (all-turn _ _ _ (c .before .call-targeted .ensures) (c .before .before .before .loop .inv .0) (not-false _ (c .if1 .left)), omega arith)
+loop-again c = (all-turn _ (c .before .call-targeted .ensures) (c .before .before .before .loop .inv .0) (c .if1 .left), omega arith)
 
 returns-2 : tie.Need-returns-2 Inv-loop μ-loop
-returns-2 c = all-done _ _ _ _ (c .before .before .size-of .ensures) (c .before .loop .inv .0) (omega arith) (omega arith)
+returns-2 c = all-done _ (c .before .before .size-of .ensures) (c .before .loop .inv .0) (omega arith)
 
 pub calls-targeted-spec : {M : Type 1} → statement M
 calls-targeted-spec =

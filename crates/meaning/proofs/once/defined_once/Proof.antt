@@ -1,9 +1,8 @@
 use mathlib.Core.Path.{_∙_}
-use borrow.Author.Tests.{not-true, not-false}
 use borrow.Author.Needs.{needs}
 use Rattle.meaning.specs.Defined.{lone}
 use Rattle.meaning.proofs.Defining.{once-is}
-use Rattle.meaning.proofs.Naming.{strict-stop, strict-go}
+use Rattle.meaning.proofs.RegistersNamed.{strict-stop, strict-go}
 use Rattle.meaning.proofs.once.defined_once.Statement.{statement}
 use Rattle.meaning.proofs.once.defined_once.Tie as tie
 
@@ -11,13 +10,13 @@ phis-lone-requires : tie.Need-phis-lone-requires
 phis-lone-requires c κs = search needs
 
 returns : tie.Need-returns
-returns c = strict-stop _ (lone (c .before .before .before .args .f .now)) _ (c .before .phis-lone .ensures) (not-true _ (c .if1 .taken)) ∙ once-is _
+returns c = strict-stop _ (lone (c .before .before .before .args .f .now)) _ (c .before .phis-lone .ensures) (c .if1 .taken) ∙ once-is _
 
 assigns-lone-requires : tie.Need-assigns-lone-requires
 assigns-lone-requires c κs = search needs
 
 returns-2 : tie.Need-returns-2
-returns-2 c = strict-go _ (lone (c .before .before .before .before .args .f .now)) _ (c .before .before .phis-lone .ensures) _ (not-false _ (c .before .if1 .left)) (c .assigns-lone .ensures) ∙ once-is _
+returns-2 c = strict-go _ (lone (c .before .before .before .before .args .f .now)) _ (c .before .before .phis-lone .ensures) _ (c .before .if1 .left) (c .assigns-lone .ensures) ∙ once-is _
 
 pub defined-once-spec : {M : Type 1} → statement M
 defined-once-spec = tie.close (tie.spec phis-lone-requires returns assigns-lone-requires returns-2)

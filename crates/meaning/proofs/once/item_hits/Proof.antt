@@ -4,7 +4,7 @@ use borrow.Author.Needs.{needs}
 use native.Mathlib.Omega.{arith}
 use Rattle.definition.specs.Lists.{sumBelow}
 use Rattle.meaning.specs.Defined.{valueOf, hit, itemHits, itemValue}
-use Rattle.meaning.proofs.Below.{sum-start, sum-turn, sum-done}
+use Rattle.records.proofs.Below.{sum-start, sum-turn, sum-done}
 use Rattle.meaning.proofs.once.item_hits.Statement.{statement}
 use Rattle.meaning.proofs.once.item_hits.Tie as tie
 
@@ -36,11 +36,11 @@ loop-less : tie.Need-loop-less Inv-loop μ-loop
 loop-less c = omega arith
 
 loop-again : tie.Need-loop-again Inv-loop μ-loop
-loop-again c = (sum-turn _ _ _ _ (c .before .before .before .loop .inv .0) (c .hit-of .ensures .0 ∙ ap (hit (valueOf (c .before .before .before .before .before .args .v))) (c .before .item-value .ensures)), omega arith, omega (arith, c .hit-of .ensures .1))
+loop-again c = (sum-turn _ (c .before .before .before .loop .inv .0) (c .hit-of .ensures .0 ∙ ap (hit (valueOf (c .before .before .before .before .before .args .v))) (c .before .item-value .ensures)), omega arith, omega (arith, c .hit-of .ensures .1))
 
 returns : tie.Need-returns Inv-loop μ-loop
 unfolding itemHits
-returns c = (sum-done _ _ _ _ _ refl (c .before .loop .inv .0) (omega arith) (omega arith), omega arith)
+returns c = (sum-done _ refl (c .before .loop .inv .0) (omega arith), omega arith)
 
 pub item-hits-spec : {M : Type 1} → statement M
 item-hits-spec =

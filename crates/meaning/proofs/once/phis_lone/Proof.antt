@@ -1,13 +1,12 @@
 use Prim.Native.Nat.{_≤_, _-_}
 use mathlib.Core.Bool.{true}
 use mathlib.Core.Path.{_≡_, sym, ap, _∙_}
-use borrow.Author.Tests.{not-true, not-false}
 use borrow.Author.Needs.{needs}
 use native.Mathlib.Omega.{arith}
 use Rattle.definition.specs.Lists.{allBelow}
 use Rattle.meaning.specs.Defined.{lone}
 use Rattle.meaning.proofs.Defining.{phiLone, phis-lone}
-use Rattle.meaning.proofs.Below.{all-start, all-turn, all-fail, all-done}
+use Rattle.records.proofs.Below.{all-start, all-turn, all-fail, all-done}
 use Rattle.meaning.proofs.once.phis_lone.Statement.{statement}
 use Rattle.meaning.proofs.once.phis_lone.Tie as tie
 
@@ -30,7 +29,7 @@ is-lone-requires : tie.Need-is-lone-requires Inv-loop μ-loop
 is-lone-requires c κs = c .before .before .before .before .before .pre
 
 returns : tie.Need-returns Inv-loop μ-loop
-returns c = all-fail (phiLone (c .before .before .before .before .before .before .before .args .f .now)) _ _ _ _ (c .before .before .before .before .before .size-of .ensures) (c .before .is-lone .ensures ∙ ap (lone (c .before .before .before .before .before .before .before .args .f .now)) (c .before .before .phi-value .ensures)) (c .before .before .before .loop-test .taken) (not-true _ (c .if1 .taken)) ∙ sym (phis-lone (c .before .before .before .before .before .before .before .args .f .now))
+returns c = all-fail _ (c .before .before .before .before .before .size-of .ensures) (c .before .is-lone .ensures ∙ ap (lone (c .before .before .before .before .before .before .before .args .f .now)) (c .before .before .phi-value .ensures)) (c .before .before .before .loop-test .taken) (c .if1 .taken) ∙ sym (phis-lone _)
 
 add-i : tie.Need-add-i Inv-loop μ-loop
 add-i c = omega arith
@@ -39,10 +38,10 @@ loop-less : tie.Need-loop-less Inv-loop μ-loop
 loop-less c = omega arith
 
 loop-again : tie.Need-loop-again Inv-loop μ-loop
-loop-again c = (all-turn _ _ _ (c .before .is-lone .ensures ∙ ap (lone (c .before .before .before .before .before .before .before .args .f .now)) (c .before .before .phi-value .ensures)) (c .before .before .before .before .loop .inv .0) (not-false _ (c .if1 .left)), omega arith)
+loop-again c = (all-turn _ (c .before .is-lone .ensures ∙ ap (lone (c .before .before .before .before .before .before .before .args .f .now)) (c .before .before .phi-value .ensures)) (c .before .before .before .before .loop .inv .0) (c .if1 .left), omega arith)
 
 returns-2 : tie.Need-returns-2 Inv-loop μ-loop
-returns-2 c = all-done _ _ _ _ (c .before .before .size-of .ensures) (c .before .loop .inv .0) (omega arith) (omega arith) ∙ sym (phis-lone (c .before .before .before .before .args .f .now))
+returns-2 c = all-done _ (c .before .before .size-of .ensures) (c .before .loop .inv .0) (omega arith) ∙ sym (phis-lone _)
 
 pub phis-lone-spec : {M : Type 1} → statement M
 phis-lone-spec =

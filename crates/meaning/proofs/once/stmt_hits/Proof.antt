@@ -4,7 +4,7 @@ use borrow.Author.Needs.{needs}
 use Rattle.definition.specs.Values.{eqv}
 use Rattle.definition.specs.Lists.{count}
 use Rattle.meaning.specs.Defined.{valueOf}
-use Rattle.meaning.proofs.Values.{exprs-fit, items-fit, item-turn}
+use Rattle.meaning.proofs.Values.{exprs-small, items-small, item-turn}
 use Rattle.meaning.proofs.Defining.{stmt-hits}
 use Rattle.meaning.proofs.once.stmt_hits.Statement.{statement}
 use Rattle.meaning.proofs.once.stmt_hits.Tie as tie
@@ -28,13 +28,13 @@ expr-items-requires : tie.Need-expr-items-requires
 expr-items-requires c κs = search needs
 
 add-item-hits : tie.Need-add-item-hits
-add-item-hits c = omega (arith, exprs-fit (c .before .before .before .before .before .before .args .f .now) (c .before .before .before .before .before .before .args .i) (c .before .before .before .before .before .before .args .at) (c .expr-items .result) (λ k. omega (arith, c .before .before .before .before .before .shared-slice-known .given k)) (c .before .before .before .before .before .before .pre) (c .expr-items .ensures))
+add-item-hits c = omega (arith, exprs-small _ _ _ _ (c .before .before .before .before .before .shared-slice-known .given) (c .before .before .before .before .before .before .pre) (c .expr-items .ensures))
 
 value-items-requires : tie.Need-value-items-requires
 value-items-requires c κs = search needs
 
 item-hits-requires : tie.Need-item-hits-requires
-item-hits-requires c κs = items-fit (c .before .before .before .before .before .before .before .args .f .now) (c .before .before .before .before .before .before .before .args .i) (c .before .before .before .before .before .before .before .args .at) (c .before .expr-items .result) (λ k. omega (arith, c .before .before .before .before .before .before .shared-slice-known .given k)) (c .before .before .before .before .before .before .before .pre) (c .before .expr-items .ensures) (c .value-items .result) (c .value-items .ensures)
+item-hits-requires c κs = items-small _ _ _ _ (c .before .before .before .before .before .before .shared-slice-known .given) (c .before .before .before .before .before .before .before .pre) (c .before .expr-items .ensures) _ (c .value-items .ensures)
 
 cast-result : tie.Need-cast-result
 cast-result c = search needs

@@ -1,6 +1,6 @@
 use native.Mathlib.Omega.{arith}
 use borrow.Author.Needs.{needs}
-use Rattle.meaning.proofs.Values.{item-turn, exprs-fit, items-fit}
+use Rattle.meaning.proofs.Values.{item-turn, exprs-small, items-small}
 use Rattle.meaning.proofs.value.next_item.Statement.{statement}
 use Rattle.meaning.proofs.value.next_item.Tie as tie
 
@@ -8,13 +8,13 @@ expr-items-requires : tie.Need-expr-items-requires
 expr-items-requires c κs = search needs
 
 add-result : tie.Need-add-result
-add-result c = omega (arith, exprs-fit (c .before .before .args .f .now) (c .before .before .args .i) (c .before .before .args .at) (c .expr-items .result) (λ k. omega (arith, c .before .shared-slice-known .given k)) (c .before .before .pre) (c .expr-items .ensures))
+add-result c = omega (arith, exprs-small _ _ _ _ (c .before .shared-slice-known .given) (c .before .before .pre) (c .expr-items .ensures))
 
 value-items-requires : tie.Need-value-items-requires
 value-items-requires c κs = search needs
 
 add-result-2 : tie.Need-add-result-2
-add-result-2 c = omega (arith, items-fit (c .before .before .before .args .f .now) (c .before .before .before .args .i) (c .before .before .before .args .at) (c .before .expr-items .result) (λ k. omega (arith, c .before .before .shared-slice-known .given k)) (c .before .before .before .pre) (c .before .expr-items .ensures) (c .value-items .result) (c .value-items .ensures))
+add-result-2 c = omega (arith, items-small _ _ _ _ (c .before .before .shared-slice-known .given) (c .before .before .before .pre) (c .before .expr-items .ensures) _ (c .value-items .ensures))
 
 returns : tie.Need-returns
 returns c = item-turn _ _ _ _ _ (c .before .before .before .pre .2) (c .before .expr-items .ensures) (c .value-items .ensures)

@@ -2,23 +2,16 @@ use Rattle.definition.specs.Contents.{size}
 use borrow.Author.Needs.{needs}
 use Rattle.records.proofs.contents.size_of.Statement.{statement}
 use Rattle.records.proofs.contents.size_of.Tie as tie
-use Rattle.records.proofs.contents.size_of.Reads as reads
-use Rattle.records.proofs.contents.size_of.Lts as lts
-use Rattle.words.proofs.word_at.Reads as word-at-reads
 
--- src/contents.rt:31:21
 mul-word-at : tie.Need-mul-word-at
 mul-word-at c = search needs
 
--- src/contents.rt:31:16
 add-word-at : tie.Need-add-word-at
 add-word-at c = search needs
 
--- src/contents.rt:31:5
 word-at-requires : tie.Need-word-at-requires
 word-at-requires c κs = search needs
 
--- src/contents.rt:28:1
 returns : tie.Need-returns
 unfolding size
 returns c = c .word-at .ensures

@@ -1,42 +1,29 @@
 use Rattle.records.proofs.Laws.{call-exprs, branch-exprs, other-exprs, no-exprs}
-use native.Mathlib.Omega.{arith}
 use borrow.Author.Needs.{needs}
 use Rattle.records.proofs.owners.expr_items.Statement.{statement}
 use Rattle.records.proofs.owners.expr_items.Tie as tie
-use Rattle.records.proofs.owners.expr_items.Reads as reads
-use Rattle.records.proofs.owners.expr_items.Lts as lts
-use Rattle.records.proofs.owners.stmt_field.Reads as stmt-field-reads
-use Rattle.records.proofs.owners.stmt_kind.Reads as stmt-kind-reads
 
--- src/owners.rt:36:9
 stmt-kind-requires : tie.Need-stmt-kind-requires
 stmt-kind-requires c κs = search needs
 
--- src/owners.rt:38:9
 stmt-field-requires : tie.Need-stmt-field-requires
 stmt-field-requires c κs = search needs
 
--- src/owners.rt:38:9
 returns : tie.Need-returns
 returns c = call-exprs _ _ _ _ (c .before .before .stmt-kind .ensures) (c .before .if1 .taken) (c .stmt-field .ensures)
 
--- src/owners.rt:41:9
 stmt-field-requires-2 : tie.Need-stmt-field-requires-2
 stmt-field-requires-2 c κs = search needs
 
--- src/owners.rt:41:9
 returns-2 : tie.Need-returns-2
 returns-2 c = branch-exprs _ _ _ _ (c .before .before .before .stmt-kind .ensures) (c .before .if2 .taken) (c .stmt-field2 .ensures)
 
--- src/owners.rt:44:9
 stmt-field-requires-3 : tie.Need-stmt-field-requires-3
 stmt-field-requires-3 c κs = search needs
 
--- src/owners.rt:44:9
 returns-3 : tie.Need-returns-3
 returns-3 c = other-exprs _ _ _ _ (c .before .before .before .before .stmt-kind .ensures) (c .before .if3 .taken) (c .stmt-field3 .ensures)
 
--- src/owners.rt:33:1
 returns-4 : tie.Need-returns-4
 returns-4 c = no-exprs _ _ _ 0 (c .before .before .before .stmt-kind .ensures) (c .before .before .if1 .left) (c .before .if2 .left) (c .if3 .left)
 

@@ -1,34 +1,23 @@
 use Rattle.records.proofs.Laws.{call-values, other-values, no-values}
-use native.Mathlib.Omega.{arith}
 use borrow.Author.Needs.{needs}
 use Rattle.records.proofs.owners.value_items.Statement.{statement}
 use Rattle.records.proofs.owners.value_items.Tie as tie
-use Rattle.records.proofs.owners.value_items.Reads as reads
-use Rattle.records.proofs.owners.value_items.Lts as lts
-use Rattle.records.proofs.owners.stmt_field.Reads as stmt-field-reads
-use Rattle.records.proofs.owners.stmt_kind.Reads as stmt-kind-reads
 
--- src/owners.rt:53:9
 stmt-kind-requires : tie.Need-stmt-kind-requires
 stmt-kind-requires c κs = search needs
 
--- src/owners.rt:55:9
 stmt-field-requires : tie.Need-stmt-field-requires
 stmt-field-requires c κs = search needs
 
--- src/owners.rt:55:9
 returns : tie.Need-returns
 returns c = call-values _ _ _ _ (c .before .before .stmt-kind .ensures) (c .before .if1 .taken) (c .stmt-field .ensures)
 
--- src/owners.rt:58:9
 stmt-field-requires-2 : tie.Need-stmt-field-requires-2
 stmt-field-requires-2 c κs = search needs
 
--- src/owners.rt:58:9
 returns-2 : tie.Need-returns-2
 returns-2 c = other-values _ _ _ _ (c .before .before .before .stmt-kind .ensures) (c .before .if2 .taken) (c .stmt-field2 .ensures)
 
--- src/owners.rt:50:1
 returns-3 : tie.Need-returns-3
 returns-3 c = no-values _ _ _ 0 (c .before .before .stmt-kind .ensures) (c .before .if1 .left) (c .if2 .left)
 

@@ -2,31 +2,22 @@ use Rattle.references.proofs.Naming.{load-child, other-child}
 use borrow.Author.Needs.{needs}
 use Rattle.references.proofs.named.child_at.Statement.{statement}
 use Rattle.references.proofs.named.child_at.Tie as tie
-use Rattle.references.proofs.named.child_at.Reads as reads
-use Rattle.references.proofs.named.child_at.Lts as lts
-use Rattle.records.proofs.contents.expr_word.Reads as expr-word-reads
 
--- src/named.rt:45:8
 expr-word-requires : tie.Need-expr-word-requires
 expr-word-requires c κs = search needs
 
--- src/named.rt:46:9
 expr-word-requires-2 : tie.Need-expr-word-requires-2
 expr-word-requires-2 c κs = search needs
 
--- src/named.rt:46:9
 returns : tie.Need-returns
 returns c = load-child _ _ _ (c .before .before .expr-word .ensures) _ _ (c .before .if1 .taken) (c .expr-word2 .ensures)
 
--- src/named.rt:48:21
 add-expr-word : tie.Need-add-expr-word
 add-expr-word c = search needs
 
--- src/named.rt:48:5
 expr-word-requires-3 : tie.Need-expr-word-requires-3
 expr-word-requires-3 c κs = search needs
 
--- src/named.rt:41:1
 returns-2 : tie.Need-returns-2
 returns-2 c = other-child _ _ _ (c .before .before .expr-word .ensures) _ _ (c .before .if1 .left) (c .expr-word3 .ensures)
 

@@ -2,27 +2,19 @@ use Rattle.references.proofs.Naming.{bin-count, un-count, load-count, n
 use borrow.Author.Needs.{needs}
 use Rattle.references.proofs.named.child_count.Statement.{statement}
 use Rattle.references.proofs.named.child_count.Tie as tie
-use Rattle.references.proofs.named.child_count.Reads as reads
-use Rattle.references.proofs.named.child_count.Lts as lts
-use Rattle.records.proofs.contents.expr_word.Reads as expr-word-reads
 
--- src/named.rt:28:9
 expr-word-requires : tie.Need-expr-word-requires
 expr-word-requires c κs = search needs
 
--- src/named.rt:30:9
 returns : tie.Need-returns
 returns c = bin-count _ _ _ (c .before .expr-word .ensures) (c .if1 .taken)
 
--- src/named.rt:33:9
 returns-2 : tie.Need-returns-2
 returns-2 c = un-count _ _ _ (c .before .before .expr-word .ensures) (c .if2 .taken)
 
--- src/named.rt:36:9
 returns-3 : tie.Need-returns-3
 returns-3 c = load-count _ _ _ (c .before .before .before .expr-word .ensures) (c .if3 .taken)
 
--- src/named.rt:25:1
 returns-4 : tie.Need-returns-4
 returns-4 c = no-count _ _ _ (c .before .before .before .expr-word .ensures) (c .before .before .if1 .left) (c .before .if2 .left) (c .if3 .left)
 

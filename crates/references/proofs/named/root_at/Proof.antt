@@ -4,65 +4,46 @@ use Rattle.references.proofs.Naming.{assign-root, store-root, flags-roo
 use borrow.Author.Needs.{needs}
 use Rattle.references.proofs.named.root_at.Statement.{statement}
 use Rattle.references.proofs.named.root_at.Tie as tie
-use Rattle.references.proofs.named.root_at.Reads as reads
-use Rattle.references.proofs.named.root_at.Lts as lts
-use Rattle.records.proofs.contents.item_word.Reads as item-word-reads
-use Rattle.records.proofs.owners.stmt_field.Reads as stmt-field-reads
-use Rattle.records.proofs.owners.stmt_kind.Reads as stmt-kind-reads
 
--- src/named.rt:79:9
 stmt-kind-requires : tie.Need-stmt-kind-requires
 stmt-kind-requires c κs = search needs
 
--- src/named.rt:81:9
 stmt-field-requires : tie.Need-stmt-field-requires
 stmt-field-requires c κs = search needs
 
--- src/named.rt:81:9
 returns : tie.Need-returns
 returns c = assign-root _ _ _ (c .before .before .stmt-kind .ensures) _ _ _ (c .before .if1 .taken) (c .stmt-field .ensures)
 
--- src/named.rt:84:33
 add-stmt-field : tie.Need-add-stmt-field
 add-stmt-field c = omega (arith, store-count _ _ _ (c .before .before .stmt-kind .ensures) (c .if2 .taken))
 
--- src/named.rt:84:9
 stmt-field-requires-2 : tie.Need-stmt-field-requires-2
 stmt-field-requires-2 c κs = omega (arith, store-count _ _ _ (c .before .before .stmt-kind .ensures) (c .if2 .taken))
 
--- src/named.rt:84:9
 returns-2 : tie.Need-returns-2
 returns-2 c = store-root _ _ _ (c .before .before .before .stmt-kind .ensures) _ _ _ (c .before .if2 .taken) (c .stmt-field2 .ensures)
 
--- src/named.rt:87:33
 add-stmt-field-2 : tie.Need-add-stmt-field-2
 add-stmt-field-2 c = omega (arith, flags-count _ _ _ (c .before .before .before .stmt-kind .ensures) (c .if3 .taken))
 
--- src/named.rt:87:9
 stmt-field-requires-3 : tie.Need-stmt-field-requires-3
 stmt-field-requires-3 c κs = omega (arith, flags-count _ _ _ (c .before .before .before .stmt-kind .ensures) (c .if3 .taken))
 
--- src/named.rt:87:9
 returns-3 : tie.Need-returns-3
 returns-3 c = flags-root _ _ _ (c .before .before .before .before .stmt-kind .ensures) _ _ _ (c .before .if3 .taken) (c .stmt-field3 .ensures)
 
--- src/named.rt:90:9
 stmt-field-requires-4 : tie.Need-stmt-field-requires-4
 stmt-field-requires-4 c κs = search needs
 
--- src/named.rt:90:9
 returns-4 : tie.Need-returns-4
 returns-4 c = return-root _ _ _ (c .before .before .before .before .before .stmt-kind .ensures) _ _ _ (c .before .if4 .taken) (c .stmt-field4 .ensures)
 
--- src/named.rt:92:18
 add-item-word : tie.Need-add-item-word
 add-item-word c = omega (arith, item-count _ _ _ (c .before .before .before .before .stmt-kind .ensures) _ (c .before .before .before .if1 .left) (c .before .before .if2 .left) (c .before .if3 .left) (c .if4 .left) refl)
 
--- src/named.rt:92:5
 item-word-requires : tie.Need-item-word-requires
 item-word-requires c κs = search needs
 
--- src/named.rt:74:1
 returns-5 : tie.Need-returns-5
 returns-5 c = item-root _ _ _ (c .before .before .before .before .before .stmt-kind .ensures) _ _ _ (c .before .before .before .before .if1 .left) (c .before .before .before .if2 .left) (c .before .before .if3 .left) (c .before .if4 .left) (c .item-word .ensures)
 

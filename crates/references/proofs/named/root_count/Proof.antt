@@ -2,45 +2,31 @@ use Rattle.references.proofs.Naming.{assign-count, store-count, flags-c
 use borrow.Author.Needs.{needs}
 use Rattle.references.proofs.named.root_count.Statement.{statement}
 use Rattle.references.proofs.named.root_count.Tie as tie
-use Rattle.references.proofs.named.root_count.Reads as reads
-use Rattle.references.proofs.named.root_count.Lts as lts
-use Rattle.records.proofs.owners.expr_items.Reads as expr-items-reads
-use Rattle.records.proofs.owners.stmt_field.Reads as stmt-field-reads
-use Rattle.records.proofs.owners.stmt_kind.Reads as stmt-kind-reads
 
--- src/named.rt:54:9
 stmt-kind-requires : tie.Need-stmt-kind-requires
 stmt-kind-requires c κs = search needs
 
--- src/named.rt:56:9
 returns : tie.Need-returns
 returns c = assign-count _ _ _ (c .before .stmt-kind .ensures) (c .if1 .taken)
 
--- src/named.rt:59:9
 returns-2 : tie.Need-returns-2
 returns-2 c = store-count _ _ _ (c .before .before .stmt-kind .ensures) (c .if2 .taken)
 
--- src/named.rt:62:9
 returns-3 : tie.Need-returns-3
 returns-3 c = flags-count _ _ _ (c .before .before .before .stmt-kind .ensures) (c .if3 .taken)
 
--- src/named.rt:65:12
 stmt-field-requires : tie.Need-stmt-field-requires
 stmt-field-requires c κs = search needs
 
--- src/named.rt:66:13
 returns-4 : tie.Need-returns-4
 returns-4 c = return-count _ _ _ (c .before .before .before .before .before .before .stmt-kind .ensures) _ (c .before .before .if4 .taken) (c .before .stmt-field .ensures) (c .if5 .taken)
 
--- src/named.rt:68:9
 returns-5 : tie.Need-returns-5
 returns-5 c = return-none _ _ _ (c .before .before .before .before .before .before .stmt-kind .ensures) _ (c .before .before .if4 .taken) (c .before .stmt-field .ensures) (c .if5 .left)
 
--- src/named.rt:70:5
 expr-items-requires : tie.Need-expr-items-requires
 expr-items-requires c κs = search needs
 
--- src/named.rt:51:1
 returns-6 : tie.Need-returns-6
 returns-6 c = item-count _ _ _ (c .before .before .before .before .before .stmt-kind .ensures) _ (c .before .before .before .before .if1 .left) (c .before .before .before .if2 .left) (c .before .before .if3 .left) (c .before .if4 .left) (c .expr-items .ensures)
 

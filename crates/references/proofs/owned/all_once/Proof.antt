@@ -1,17 +1,15 @@
 use native.Mathlib.Omega.{arith}
 use borrow.Author.Needs.{needs}
-use mathlib.Core.Path.{_≡_}
+use mathlib.Core.Path.{_≡_, refl, sym}
 use mathlib.Core.Bool.{true}
 use Prim.Native.Nat.{ℕ, _≤_, _-_}
 use lib.Dec.{eqb}
 use borrow.Author.Tests.{eq-eqb, ne-eqb}
 use Rattle.definition.specs.Lists.{allBelow}
 use Rattle.references.specs.Tally.{ownersAt}
-use Rattle.references.proofs.Below.{all-start, all-turn, all-fail, all-done}
+use Rattle.records.proofs.Below.{all-start, all-turn, all-fail, all-done}
 use Rattle.references.proofs.owned.all_once.Statement.{statement}
 use Rattle.references.proofs.owned.all_once.Tie as tie
-use Rattle.references.proofs.owned.all_once.Reads as reads
-use Rattle.references.proofs.owned.all_once.Lts as lts
 
 abbrev Inv-loop : tie.InvT-loop
 Inv-loop table n i₀ i = (allBelow i (λ (e : ℕ). eqb (ownersAt table e) 1) ≡ true) × (i ≤ n)
@@ -19,43 +17,34 @@ Inv-loop table n i₀ i = (allBelow i (λ (e : ℕ). eqb (ownersAt table e) 1) �
 abbrev μ-loop : tie.MeasureT-loop
 μ-loop table n i₀ i = n - i
 
--- src/owned.rt:109:5
 loop-holds : tie.Need-loop-holds Inv-loop μ-loop
 loop-holds c = (all-start _, omega arith)
 
--- src/owned.rt:110:18
 cast-if1 : tie.Need-cast-if1 Inv-loop μ-loop
 cast-if1 c = search needs
 
--- src/owned.rt:110:12
 mul-if1 : tie.Need-mul-if1 Inv-loop μ-loop
 mul-if1 c = search needs
 
--- src/owned.rt:110:12
 shared-slice-read-if1 : tie.Need-shared-slice-read-if1 Inv-loop μ-loop
 shared-slice-read-if1 c = omega arith
 
--- src/owned.rt:111:13
 returns : tie.Need-returns Inv-loop μ-loop
 unfolding ownersAt
-returns c = all-fail _ _ _ (c .before .before .loop-test .taken) (ne-eqb _ 1 (c .if1 .taken))
+returns c = all-fail _ refl (sym (ne-eqb _ 1 (c .if1 .taken))) (c .before .before .loop-test .taken) refl
 
--- src/owned.rt:113:9
 add-i : tie.Need-add-i Inv-loop μ-loop
 add-i c = omega arith
 
--- src/owned.rt:109:5
 loop-less : tie.Need-loop-less Inv-loop μ-loop
 loop-less c = omega arith
 
--- src/owned.rt:109:5
 loop-again : tie.Need-loop-again Inv-loop μ-loop
 unfolding ownersAt
-loop-again c = (all-turn _ _ (c .before .before .before .loop .inv .0) (eq-eqb _ 1 (c .if1 .left)), omega arith)
+loop-again c = (all-turn _ (sym (eq-eqb _ 1 (c .if1 .left))) (c .before .before .before .loop .inv .0) refl, omega arith)
 
--- src/owned.rt:104:1
 returns-2 : tie.Need-returns-2 Inv-loop μ-loop
-returns-2 c = all-done _ _ _ (omega arith) (omega arith) (c .before .loop .inv .0)
+returns-2 c = all-done _ refl (c .before .loop .inv .0) (omega arith)
 
 pub all-once-spec : {M : Type 1} → statement M
 all-once-spec =

@@ -7,8 +7,6 @@ use Rattle.references.specs.Tally.{ownersAt}
 use Rattle.references.proofs.Tally.{clear-on, clear-end}
 use Rattle.references.proofs.owned.clear.Statement.{statement}
 use Rattle.references.proofs.owned.clear.Tie as tie
-use Rattle.references.proofs.owned.clear.Reads as reads
-use Rattle.references.proofs.owned.clear.Lts as lts
 
 abbrev Inv-loop : tie.InvT-loop
 Inv-loop table₀ i₀ table i = ((j : ℕ) → j < i → ownersAt table j ≡ 0) × (i ≤ length table) × (length table ≡ length table₀)
@@ -16,35 +14,27 @@ Inv-loop table₀ i₀ table i = ((j : ℕ) → j < i → ownersAt table j ≡ 0
 abbrev μ-loop : tie.MeasureT-loop
 μ-loop table₀ i₀ table i = length table - i
 
--- src/owned.rt:27:5
 loop-holds : tie.Need-loop-holds Inv-loop μ-loop
 loop-holds c = ((λ j h. absurd (omega arith)), omega arith, refl)
 
--- src/owned.rt:28:9
 mul-table : tie.Need-mul-table Inv-loop μ-loop
 mul-table c = search needs
 
--- src/owned.rt:28:9
 slice-write-table : tie.Need-slice-write-table Inv-loop μ-loop
 slice-write-table c = search needs
 
--- src/owned.rt:29:9
 add-i : tie.Need-add-i Inv-loop μ-loop
 add-i c = search needs
 
--- src/owned.rt:27:5
 loop-less : tie.Need-loop-less Inv-loop μ-loop
 loop-less c = omega (arith, length-set (c .before .loop .table) (c .before .loop .i) 0)
 
--- src/owned.rt:27:5
 loop-again : tie.Need-loop-again Inv-loop μ-loop
 loop-again c = (clear-on _ _ (c .before .loop .inv .0) (c .loop-test .taken), omega (arith, length-set (c .before .loop .table) (c .before .loop .i) 0), simp length-set (c .before .loop .inv .2))
 
--- src/owned.rt:23:1
 same-length : tie.Need-same-length Inv-loop μ-loop
 same-length c = c .before .loop .inv .2
 
--- src/owned.rt:23:1
 returns : tie.Need-returns Inv-loop μ-loop
 returns c = clear-end _ (c .before .before .args .table .now) _ (c .before .loop .inv .2) (omega arith) (c .before .loop .inv .0)
 

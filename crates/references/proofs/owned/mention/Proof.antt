@@ -3,39 +3,28 @@ use Rattle.references.proofs.Tally.{mention-in, mention-out}
 use borrow.Author.Needs.{needs}
 use Rattle.references.proofs.owned.mention.Statement.{statement}
 use Rattle.references.proofs.owned.mention.Tie as tie
-use Rattle.references.proofs.owned.mention.Reads as reads
-use Rattle.references.proofs.owned.mention.Lts as lts
-use Rattle.references.proofs.owned.one_more.Reads as one-more-reads
 
--- src/owned.rt:48:29
 mul-one-more : tie.Need-mul-one-more
 mul-one-more c = search needs
 
--- src/owned.rt:48:29
 slice-read-one-more : tie.Need-slice-read-one-more
 slice-read-one-more c = search needs
 
--- src/owned.rt:48:20
 one-more-requires : tie.Need-one-more-requires
 one-more-requires c κs = search needs
 
--- src/owned.rt:48:9
 mul-table : tie.Need-mul-table
 mul-table c = search needs
 
--- src/owned.rt:48:9
 slice-write-table : tie.Need-slice-write-table
 slice-write-table c = search needs
 
--- src/owned.rt:43:1
 same-length : tie.Need-same-length
 same-length c = search needs
 
--- src/owned.rt:43:1
 returns : tie.Need-returns
 returns c = mention-in _ _ _ (c .one-more .ensures)
 
--- src/owned.rt:43:1
 returns-2 : tie.Need-returns-2
 returns-2 c = mention-out _ _ (omega arith)
 

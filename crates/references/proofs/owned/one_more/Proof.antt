@@ -2,14 +2,10 @@ use native.Mathlib.Omega.{arith}
 use Rattle.references.proofs.Tally.{more-none, more-some}
 use Rattle.references.proofs.owned.one_more.Statement.{statement}
 use Rattle.references.proofs.owned.one_more.Tie as tie
-use Rattle.references.proofs.owned.one_more.Reads as reads
-use Rattle.references.proofs.owned.one_more.Lts as lts
 
--- src/owned.rt:38:9
 returns : tie.Need-returns
 returns c = more-none _ (omega arith)
 
--- src/owned.rt:34:1
 returns-2 : tie.Need-returns-2
 returns-2 c = more-some _ (λ e. omega arith)
 

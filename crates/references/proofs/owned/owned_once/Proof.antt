@@ -3,43 +3,28 @@ use Rattle.references.proofs.Sound.{once-answer}
 use borrow.Author.Needs.{needs}
 use Rattle.references.proofs.owned.owned_once.Statement.{statement}
 use Rattle.references.proofs.owned.owned_once.Tie as tie
-use Rattle.references.proofs.owned.owned_once.Reads as reads
-use Rattle.references.proofs.owned.owned_once.Lts as lts
-use Rattle.references.proofs.owned.all_once.Reads as all-once-reads
-use Rattle.references.proofs.owned.clear.Reads as clear-reads
-use Rattle.references.proofs.owned.tally_expressions.Reads as tally-expressions-reads
-use Rattle.references.proofs.owned.tally_statements.Reads as tally-statements-reads
-use Rattle.records.proofs.contents.size_of.Reads as size-of-reads
 
--- src/owned.rt:124:5
 clear-requires : tie.Need-clear-requires
 clear-requires c κs = search needs
 
--- src/owned.rt:125:5
 tally-statements-requires : tie.Need-tally-statements-requires
 tally-statements-requires c κs = search needs
 
--- src/owned.rt:126:5
 tally-expressions-requires : tie.Need-tally-expressions-requires
 tally-expressions-requires c κs = search needs
 
--- src/owned.rt:127:32
 size-of-requires : tie.Need-size-of-requires
 size-of-requires c κs = search needs
 
--- src/owned.rt:127:9
 all-once-requires : tie.Need-all-once-requires
 all-once-requires c κs = search needs
 
--- src/owned.rt:128:5
 clear-requires-2 : tie.Need-clear-requires-2
 clear-requires-2 c κs = search needs
 
--- src/owned.rt:119:1
 same-length : tie.Need-same-length
 same-length c = search needs
 
--- src/owned.rt:119:1
 returns : tie.Need-returns
 returns c = once-answer _ _ _ _ _ _ _ _ (c .before .before .before .before .before .before .before .before .before .before .before .before .before .before .before .before .before .clear .ensures) (c .before .before .before .before .before .before .before .before .before .before .before .before .before .tally-statements .ensures) (c .before .before .before .before .before .before .before .before .before .tally-expressions .ensures) (c .before .before .before .before .before .size-of .ensures) (omega (arith, c .before .before .before .before .before .before .before .before .before .before .before .before .before .before .before .before .before .before .before .before .before .pre .1, c .before .before .before .before .before .size-of .ensures)) (c .before .before .before .before .all-once .ensures) (c .before .before .clear2 .ensures)
 

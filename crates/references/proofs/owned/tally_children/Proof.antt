@@ -12,11 +12,6 @@ use Rattle.references.specs.Named.{childAt}
 use Rattle.references.proofs.Naming.{children-start, count-few}
 use Rattle.references.proofs.owned.tally_children.Statement.{statement}
 use Rattle.references.proofs.owned.tally_children.Tie as tie
-use Rattle.references.proofs.owned.tally_children.Reads as reads
-use Rattle.references.proofs.owned.tally_children.Lts as lts
-use Rattle.references.proofs.named.child_at.Reads as child-at-reads
-use Rattle.references.proofs.named.child_count.Reads as child-count-reads
-use Rattle.references.proofs.owned.mention.Reads as mention-reads
 
 abbrev Inv-loop : tie.InvT-loop
 Inv-loop table₀ f i n k₀ table k = (tally table₀ (children f i) ≡ tally table (map (childAt f i) (range k (n - k)))) × (n ≤ 2) × (length table ≡ length table₀)
@@ -24,40 +19,31 @@ Inv-loop table₀ f i n k₀ table k = (tally table₀ (children f i) ≡ tally 
 abbrev μ-loop : tie.MeasureT-loop
 μ-loop table₀ f i n k₀ table k = n - k
 
--- src/owned.rt:69:9
 child-count-requires : tie.Need-child-count-requires Inv-loop μ-loop
 child-count-requires c κs = search needs
 
--- src/owned.rt:71:5
 loop-holds : tie.Need-loop-holds Inv-loop μ-loop
 loop-holds c = (children-start _ _ _ _ (c .child-count .ensures), omega (arith, c .child-count .ensures, count-few (c .before .before .before .args .f .now) (c .before .before .before .args .i)), refl)
 
--- src/owned.rt:72:24
 child-at-requires : tie.Need-child-at-requires Inv-loop μ-loop
 child-at-requires c κs = omega arith
 
--- src/owned.rt:72:9
 mention-requires : tie.Need-mention-requires Inv-loop μ-loop
 mention-requires c κs = search needs
 
--- src/owned.rt:73:9
 add-k : tie.Need-add-k Inv-loop μ-loop
 add-k c = omega arith
 
--- src/owned.rt:71:5
 loop-less : tie.Need-loop-less Inv-loop μ-loop
 loop-less c = omega arith
 
--- src/owned.rt:71:5
 loop-again : tie.Need-loop-again Inv-loop μ-loop
 loop-again c = let g = childAt (c .before .before .before .before .before .before .before .before .before .before .args .f .now) (c .before .before .before .before .before .before .before .before .before .before .args .i) in
     (c .before .before .before .before .before .before .loop .inv .0 ∙ names-turn g _ _ _ _ _ (c .before .before .before .before .before .loop-test .taken) (c .before .before .before .child-at .ensures) (c .before .before .mention .ensures), omega arith, mention-keeps _ _ (c .before .before .before .before .before .before .before .before .before .before .args .table .now) _ (c .before .before .mention .ensures) (c .before .before .before .before .before .before .loop .inv .2))
 
--- src/owned.rt:66:1
 same-length : tie.Need-same-length Inv-loop μ-loop
 same-length c = c .before .loop .inv .2
 
--- src/owned.rt:66:1
 returns : tie.Need-returns Inv-loop μ-loop
 returns c = names-end (childAt (c .before .before .before .before .before .args .f .now) (c .before .before .before .before .before .args .i)) _ _ _ _ (c .loop-test .left) (c .before .loop .inv .0)
 

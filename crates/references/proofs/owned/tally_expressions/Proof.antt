@@ -11,10 +11,6 @@ use Rattle.references.specs.Tally.{tally}
 use Rattle.references.proofs.Tally.{runs-start, runs-turn, runs-end, tally-keeps}
 use Rattle.references.proofs.owned.tally_expressions.Statement.{statement}
 use Rattle.references.proofs.owned.tally_expressions.Tie as tie
-use Rattle.references.proofs.owned.tally_expressions.Reads as reads
-use Rattle.references.proofs.owned.tally_expressions.Lts as lts
-use Rattle.references.proofs.owned.tally_children.Reads as tally-children-reads
-use Rattle.records.proofs.contents.size_of.Reads as size-of-reads
 
 abbrev Inv-loop : tie.InvT-loop
 Inv-loop table₀ f n i₀ table i = (tally table₀ (gather (children f) (range 0 (size f expressions))) ≡ tally table (gather (children f) (range i (n - i)))) × (length table ≡ length table₀)
@@ -22,36 +18,28 @@ Inv-loop table₀ f n i₀ table i = (tally table₀ (gather (children f) (range
 abbrev μ-loop : tie.MeasureT-loop
 μ-loop table₀ f n i₀ table i = n - i
 
--- src/owned.rt:95:9
 size-of-requires : tie.Need-size-of-requires Inv-loop μ-loop
 size-of-requires c κs = search needs
 
--- src/owned.rt:97:5
 loop-holds : tie.Need-loop-holds Inv-loop μ-loop
 loop-holds c = (runs-start _ _ _ _ (c .size-of .ensures), refl)
 
--- src/owned.rt:98:9
 tally-children-requires : tie.Need-tally-children-requires Inv-loop μ-loop
 tally-children-requires c κs = search needs
 
--- src/owned.rt:99:9
 add-i : tie.Need-add-i Inv-loop μ-loop
 add-i c = omega arith
 
--- src/owned.rt:97:5
 loop-less : tie.Need-loop-less Inv-loop μ-loop
 loop-less c = omega arith
 
--- src/owned.rt:97:5
 loop-again : tie.Need-loop-again Inv-loop μ-loop
 loop-again c = let inv = c .before .before .before .before .before .loop .inv in
     (inv .0 ∙ runs-turn _ _ _ _ _ (c .before .before .before .before .loop-test .taken) (c .before .before .tally-children .ensures), tally-keeps _ _ (c .before .before .before .before .before .before .before .before .before .args .table .now) _ (c .before .before .tally-children .ensures) (inv .1))
 
--- src/owned.rt:92:1
 same-length : tie.Need-same-length Inv-loop μ-loop
 same-length c = c .before .loop .inv .1
 
--- src/owned.rt:92:1
 returns : tie.Need-returns Inv-loop μ-loop
 returns c = runs-end _ _ _ _ _ (c .loop-test .left) (c .before .loop .inv .0)
 

@@ -12,11 +12,6 @@ use Rattle.references.specs.Named.{rootAt, rootCount}
 use Rattle.references.proofs.Naming.{roots-start}
 use Rattle.references.proofs.owned.tally_roots.Statement.{statement}
 use Rattle.references.proofs.owned.tally_roots.Tie as tie
-use Rattle.references.proofs.owned.tally_roots.Reads as reads
-use Rattle.references.proofs.owned.tally_roots.Lts as lts
-use Rattle.references.proofs.named.root_at.Reads as root-at-reads
-use Rattle.references.proofs.named.root_count.Reads as root-count-reads
-use Rattle.references.proofs.owned.mention.Reads as mention-reads
 
 abbrev Inv-loop : tie.InvT-loop
 Inv-loop table₀ f i first n k₀ table k = (tally table₀ (roots f i) ≡ tally table (map (rootAt f i first) (range k (n - k)))) × (n ≡ rootCount f i) × (length table ≡ length table₀)
@@ -24,40 +19,31 @@ Inv-loop table₀ f i first n k₀ table k = (tally table₀ (roots f i) ≡ tal
 abbrev μ-loop : tie.MeasureT-loop
 μ-loop table₀ f i first n k₀ table k = n - k
 
--- src/owned.rt:58:9
 root-count-requires : tie.Need-root-count-requires Inv-loop μ-loop
 root-count-requires c κs = search needs
 
--- src/owned.rt:60:5
 loop-holds : tie.Need-loop-holds Inv-loop μ-loop
 loop-holds c = (roots-start _ _ _ _ _ (c .before .before .before .pre .0) (c .root-count .ensures), c .root-count .ensures, refl)
 
--- src/owned.rt:61:24
 root-at-requires : tie.Need-root-at-requires Inv-loop μ-loop
 root-at-requires c κs = (omega arith, c .before .before .before .before .before .before .pre .1)
 
--- src/owned.rt:61:9
 mention-requires : tie.Need-mention-requires Inv-loop μ-loop
 mention-requires c κs = search needs
 
--- src/owned.rt:62:9
 add-k : tie.Need-add-k Inv-loop μ-loop
 add-k c = omega arith
 
--- src/owned.rt:60:5
 loop-less : tie.Need-loop-less Inv-loop μ-loop
 loop-less c = omega arith
 
--- src/owned.rt:60:5
 loop-again : tie.Need-loop-again Inv-loop μ-loop
 loop-again c = let g = rootAt (c .before .before .before .before .before .before .before .before .before .before .args .f .now) (c .before .before .before .before .before .before .before .before .before .before .args .i) (c .before .before .before .before .before .before .before .before .before .before .args .first) in
     (c .before .before .before .before .before .before .loop .inv .0 ∙ names-turn g _ _ _ _ _ (c .before .before .before .before .before .loop-test .taken) (c .before .before .before .root-at .ensures) (c .before .before .mention .ensures), c .before .before .before .before .before .before .loop .inv .1, mention-keeps _ _ (c .before .before .before .before .before .before .before .before .before .before .args .table .now) _ (c .before .before .mention .ensures) (c .before .before .before .before .before .before .loop .inv .2))
 
--- src/owned.rt:53:1
 same-length : tie.Need-same-length Inv-loop μ-loop
 same-length c = c .before .loop .inv .2
 
--- src/owned.rt:53:1
 returns : tie.Need-returns Inv-loop μ-loop
 returns c = names-end (rootAt (c .before .before .before .before .before .args .f .now) (c .before .before .before .before .before .args .i) (c .before .before .before .before .before .args .first)) _ _ _ _ (c .loop-test .left) (c .before .loop .inv .0)
 

@@ -10,14 +10,9 @@ use Rattle.definition.specs.Owners.{firstItem}
 use Rattle.definition.specs.References.{roots}
 use Rattle.references.specs.Tally.{tally}
 use Rattle.references.proofs.Tally.{runs-start, runs-turn, runs-end, tally-keeps}
-use Rattle.references.proofs.Naming.{first-start, first-turn, items-fit, exprs-fit}
+use Rattle.records.proofs.Items.{first-start, first-turn, items-fit, exprs-fit}
 use Rattle.references.proofs.owned.tally_statements.Statement.{statement}
 use Rattle.references.proofs.owned.tally_statements.Tie as tie
-use Rattle.references.proofs.owned.tally_statements.Reads as reads
-use Rattle.references.proofs.owned.tally_statements.Lts as lts
-use Rattle.references.proofs.owned.tally_roots.Reads as tally-roots-reads
-use Rattle.records.proofs.contents.size_of.Reads as size-of-reads
-use Rattle.records.proofs.owners.items_of.Reads as items-of-reads
 
 abbrev Inv-loop : tie.InvT-loop
 Inv-loop table₀ f n first₀ i₀ table first i = (tally table₀ (gather (roots f) (range 0 (size f statements))) ≡ tally table (gather (roots f) (range i (n - i)))) × (first ≡ firstItem f i) × (n ≡ size f statements) × (length table ≡ length table₀)
@@ -25,48 +20,37 @@ Inv-loop table₀ f n first₀ i₀ table first i = (tally table₀ (gather (roo
 abbrev μ-loop : tie.MeasureT-loop
 μ-loop table₀ f n first₀ i₀ table first i = n - i
 
--- src/owned.rt:82:9
 size-of-requires : tie.Need-size-of-requires Inv-loop μ-loop
 size-of-requires c κs = search needs
 
--- src/owned.rt:85:5
 loop-holds : tie.Need-loop-holds Inv-loop μ-loop
 loop-holds c = (runs-start _ _ _ _ (c .size-of .ensures), first-start _, c .size-of .ensures, refl)
 
--- src/owned.rt:86:9
 tally-roots-requires : tie.Need-tally-roots-requires Inv-loop μ-loop
-tally-roots-requires c κs = let inv = c .before .before .loop .inv in (inv .1, exprs-fit _ _ _ _ (c .before .loop-test .taken) (inv .1) (inv .2) (c .before .before .before .before .before .before .pre))
+tally-roots-requires c κs = let inv = c .before .before .loop .inv in (inv .1, omega (arith, exprs-fit _ (c .before .before .before .before .before .before .pre) _ (inv .2) (c .before .loop-test .taken) (inv .1)))
 
--- src/owned.rt:87:18
 items-of-requires : tie.Need-items-of-requires Inv-loop μ-loop
 items-of-requires c κs = search needs
 
--- src/owned.rt:87:18
 cast-first : tie.Need-cast-first Inv-loop μ-loop
-cast-first c = let inv = c .before .before .before .before .before .before .loop .inv in omega (arith, c .items-of .ensures, items-fit _ _ _ _ (c .before .before .before .before .before .loop-test .taken) (inv .1) (inv .2) (c .before .before .before .before .before .before .before .before .before .before .pre))
+cast-first c = let inv = c .before .before .before .before .before .before .loop .inv in omega (arith, c .items-of .ensures, items-fit _ (c .before .before .before .before .before .before .before .before .before .before .pre) _ (inv .2) (c .before .before .before .before .before .loop-test .taken) (inv .1))
 
--- src/owned.rt:87:9
 add-first : tie.Need-add-first Inv-loop μ-loop
-add-first c = let inv = c .before .before .before .before .before .before .loop .inv in omega (arith, c .items-of .ensures, items-fit _ _ _ _ (c .before .before .before .before .before .loop-test .taken) (inv .1) (inv .2) (c .before .before .before .before .before .before .before .before .before .before .pre))
+add-first c = let inv = c .before .before .before .before .before .before .loop .inv in omega (arith, c .items-of .ensures, items-fit _ (c .before .before .before .before .before .before .before .before .before .before .pre) _ (inv .2) (c .before .before .before .before .before .loop-test .taken) (inv .1))
 
--- src/owned.rt:88:9
 add-i : tie.Need-add-i Inv-loop μ-loop
 add-i c = omega arith
 
--- src/owned.rt:85:5
 loop-less : tie.Need-loop-less Inv-loop μ-loop
 loop-less c = omega arith
 
--- src/owned.rt:85:5
 loop-again : tie.Need-loop-again Inv-loop μ-loop
 loop-again c = let inv = c .before .before .before .before .before .before .loop .inv in
-    (inv .0 ∙ runs-turn _ _ _ _ _ (c .before .before .before .before .before .loop-test .taken) (c .before .before .before .tally-roots .ensures), first-turn _ _ _ _ (inv .1) (c .items-of .ensures), inv .2, tally-keeps _ _ (c .before .before .before .before .before .before .before .before .before .before .args .table .now) _ (c .before .before .before .tally-roots .ensures) (inv .3))
+    (inv .0 ∙ runs-turn _ _ _ _ _ (c .before .before .before .before .before .loop-test .taken) (c .before .before .before .tally-roots .ensures), first-turn _ _ (inv .1) (c .items-of .ensures), inv .2, tally-keeps _ _ (c .before .before .before .before .before .before .before .before .before .before .args .table .now) _ (c .before .before .before .tally-roots .ensures) (inv .3))
 
--- src/owned.rt:78:1
 same-length : tie.Need-same-length Inv-loop μ-loop
 same-length c = c .before .loop .inv .3
 
--- src/owned.rt:78:1
 returns : tie.Need-returns Inv-loop μ-loop
 returns c = runs-end _ _ _ _ _ (c .loop-test .left) (c .before .loop .inv .0)
 

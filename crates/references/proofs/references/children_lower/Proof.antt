@@ -7,10 +7,6 @@ use Rattle.references.specs.Named.{childAt}
 use Rattle.references.proofs.Naming.{lower-start, count-few, namesBelow, below-turn, below-fail, below-end}
 use Rattle.references.proofs.references.children_lower.Statement.{statement}
 use Rattle.references.proofs.references.children_lower.Tie as tie
-use Rattle.references.proofs.references.children_lower.Reads as reads
-use Rattle.references.proofs.references.children_lower.Lts as lts
-use Rattle.references.proofs.named.child_at.Reads as child-at-reads
-use Rattle.references.proofs.named.child_count.Reads as child-count-reads
 
 abbrev Inv-loop : tie.InvT-loop
 Inv-loop f i n k₀ k = (childrenLower f i ≡ namesBelow (childAt f i) i k (n - k)) × (n ≤ 2)
@@ -18,35 +14,27 @@ Inv-loop f i n k₀ k = (childrenLower f i ≡ namesBelow (childAt f i) i k (n -
 abbrev μ-loop : tie.MeasureT-loop
 μ-loop f i n k₀ k = n - k
 
--- src/references.rt:136:9
 child-count-requires : tie.Need-child-count-requires Inv-loop μ-loop
 child-count-requires c κs = search needs
 
--- src/references.rt:138:5
 loop-holds : tie.Need-loop-holds Inv-loop μ-loop
 loop-holds c = (lower-start _ _ _ (c .child-count .ensures), omega (arith, c .child-count .ensures, count-few (c .before .before .args .f .now) (c .before .before .args .i)))
 
--- src/references.rt:139:12
 child-at-requires : tie.Need-child-at-requires Inv-loop μ-loop
 child-at-requires c κs = omega arith
 
--- src/references.rt:140:13
 returns : tie.Need-returns Inv-loop μ-loop
 returns c = below-fail _ _ _ _ _ (c .before .before .loop-test .taken) (c .before .child-at .ensures) (omega arith) ∙ sym (c .before .before .before .loop .inv .0)
 
--- src/references.rt:142:9
 add-k : tie.Need-add-k Inv-loop μ-loop
 add-k c = omega arith
 
--- src/references.rt:138:5
 loop-less : tie.Need-loop-less Inv-loop μ-loop
 loop-less c = omega arith
 
--- src/references.rt:138:5
 loop-again : tie.Need-loop-again Inv-loop μ-loop
 loop-again c = (c .before .before .before .loop .inv .0 ∙ below-turn _ _ _ _ _ (c .before .before .loop-test .taken) (c .before .child-at .ensures) (omega arith), omega arith)
 
--- src/references.rt:133:1
 returns-2 : tie.Need-returns-2 Inv-loop μ-loop
 returns-2 c = below-end _ _ _ _ (omega arith) ∙ sym (c .before .loop .inv .0)
 

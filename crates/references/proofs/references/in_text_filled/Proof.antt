@@ -3,19 +3,13 @@ use Rattle.references.proofs.Sound.{filled-none, filled-some}
 use borrow.Author.Needs.{needs}
 use Rattle.references.proofs.references.in_text_filled.Statement.{statement}
 use Rattle.references.proofs.references.in_text_filled.Tie as tie
-use Rattle.references.proofs.references.in_text_filled.Reads as reads
-use Rattle.references.proofs.references.in_text_filled.Lts as lts
-use Rattle.references.proofs.references.in_text.Reads as in-text-reads
 
--- src/references.rt:53:9
 returns : tie.Need-returns
 returns c = filled-none _ _ _ _ (omega arith)
 
--- src/references.rt:55:5
 in-text-requires : tie.Need-in-text-requires
 in-text-requires c κs = search needs
 
--- src/references.rt:49:1
 returns-2 : tie.Need-returns-2
 returns-2 c = filled-some _ _ _ _ _ (λ e. omega arith) (c .in-text .ensures)
 

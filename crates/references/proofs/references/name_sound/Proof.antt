@@ -2,24 +2,16 @@ use Rattle.references.proofs.Sound.{name-is}
 use borrow.Author.Needs.{needs}
 use Rattle.references.proofs.references.name_sound.Statement.{statement}
 use Rattle.references.proofs.references.name_sound.Tie as tie
-use Rattle.references.proofs.references.name_sound.Reads as reads
-use Rattle.references.proofs.references.name_sound.Lts as lts
-use Rattle.references.proofs.references.in_text_filled.Reads as in-text-filled-reads
-use Rattle.records.proofs.contents.name_word.Reads as name-word-reads
 
--- src/references.rt:96:26
 name-word-requires : tie.Need-name-word-requires
 name-word-requires c κs = search needs
 
--- src/references.rt:96:46
 name-word-requires-2 : tie.Need-name-word-requires-2
 name-word-requires-2 c κs = search needs
 
--- src/references.rt:96:5
 in-text-filled-requires : tie.Need-in-text-filled-requires
 in-text-filled-requires c κs = search needs
 
--- src/references.rt:93:1
 returns : tie.Need-returns
 returns c = name-is _ _ _ _ _ _ (c .before .before .name-word .ensures) (c .before .name-word2 .ensures) (c .in-text-filled .ensures)
 

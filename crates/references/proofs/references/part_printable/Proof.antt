@@ -8,9 +8,6 @@ use Rattle.definition.specs.References.{printable}
 use Rattle.references.proofs.Sound.{part-turn, part-fail, part-past, part-end}
 use Rattle.references.proofs.references.part_printable.Statement.{statement}
 use Rattle.references.proofs.references.part_printable.Tie as tie
-use Rattle.references.proofs.references.part_printable.Reads as reads
-use Rattle.references.proofs.references.part_printable.Lts as lts
-use Rattle.references.proofs.references.is_printable.Reads as is-printable-reads
 
 abbrev Inv-loop : tie.InvT-loop
 Inv-loop f start n i₀ left₀ i left = all printable (part f start n) ≡ all printable (part f i left)
@@ -18,43 +15,33 @@ Inv-loop f start n i₀ left₀ i left = all printable (part f start n) ≡ all 
 abbrev μ-loop : tie.MeasureT-loop
 μ-loop f start n i₀ left₀ i left = left
 
--- src/references.rt:73:5
 loop-holds : tie.Need-loop-holds Inv-loop μ-loop
 loop-holds c = refl
 
--- src/references.rt:75:13
 returns : tie.Need-returns Inv-loop μ-loop
 returns c = part-past _ _ _ (omega arith) ∙ sym (c .before .before .loop .inv)
 
--- src/references.rt:77:26
 shared-slice-read-is-printable : tie.Need-shared-slice-read-is-printable Inv-loop μ-loop
 shared-slice-read-is-printable c = omega arith
 
--- src/references.rt:77:13
 is-printable-requires : tie.Need-is-printable-requires Inv-loop μ-loop
 is-printable-requires c κs = search needs
 
--- src/references.rt:78:13
 returns-2 : tie.Need-returns-2 Inv-loop μ-loop
 returns-2 c = part-fail _ _ _ (omega arith) (omega arith) (sym (c .before .is-printable .ensures) ∙ not-true _ (c .if2 .taken)) ∙ sym (c .before .before .before .before .before .loop .inv)
 
--- src/references.rt:80:9
 add-i : tie.Need-add-i Inv-loop μ-loop
 add-i c = omega arith
 
--- src/references.rt:81:9
 sub-left : tie.Need-sub-left Inv-loop μ-loop
 sub-left c = omega arith
 
--- src/references.rt:73:5
 loop-less : tie.Need-loop-less Inv-loop μ-loop
 loop-less c = omega arith
 
--- src/references.rt:73:5
 loop-again : tie.Need-loop-again Inv-loop μ-loop
 loop-again c = c .before .before .before .before .before .loop .inv ∙ part-turn _ _ _ (omega arith) (omega arith) (sym (c .before .is-printable .ensures) ∙ not-false _ (c .if2 .left))
 
--- src/references.rt:68:1
 returns-3 : tie.Need-returns-3 Inv-loop μ-loop
 returns-3 c = part-end _ _ _ (omega arith) ∙ sym (c .before .loop .inv)
 

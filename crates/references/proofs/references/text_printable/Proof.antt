@@ -2,37 +2,25 @@ use Rattle.references.proofs.Sound.{text-part}
 use borrow.Author.Needs.{needs}
 use Rattle.references.proofs.references.text_printable.Statement.{statement}
 use Rattle.references.proofs.references.text_printable.Tie as tie
-use Rattle.references.proofs.references.text_printable.Reads as reads
-use Rattle.references.proofs.references.text_printable.Lts as lts
-use Rattle.references.proofs.references.part_printable.Reads as part-printable-reads
-use Rattle.records.proofs.contents.offset_of.Reads as offset-of-reads
-use Rattle.records.proofs.contents.size_of.Reads as size-of-reads
 
--- src/references.rt:89:9
 text-requires : tie.Need-text-requires
 text-requires c κs = search needs
 
--- src/references.rt:90:23
 offset-of-requires : tie.Need-offset-of-requires
 offset-of-requires c κs = search needs
 
--- src/references.rt:90:23
 cast-part-printable : tie.Need-cast-part-printable
 cast-part-printable c = search needs
 
--- src/references.rt:90:49
 size-of-requires : tie.Need-size-of-requires
 size-of-requires c κs = search needs
 
--- src/references.rt:90:49
 cast-part-printable-2 : tie.Need-cast-part-printable-2
 cast-part-printable-2 c = search needs
 
--- src/references.rt:90:5
 part-printable-requires : tie.Need-part-printable-requires
 part-printable-requires c κs = search needs
 
--- src/references.rt:86:1
 returns : tie.Need-returns
 returns c = text-part _ _ _ _ _ _ (c .before .before .before .text .ensures) (c .before .before .offset-of .ensures) (c .before .size-of .ensures) (c .part-printable .ensures)
 

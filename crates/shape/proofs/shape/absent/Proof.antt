@@ -1,8 +1,6 @@
 use Rattle.shape.proofs.Shapes.{absent-is}
 use Rattle.shape.proofs.shape.absent.Statement.{statement}
 use Rattle.shape.proofs.shape.absent.Tie as tie
-use Rattle.shape.proofs.shape.absent.Reads as reads
-use Rattle.shape.proofs.shape.absent.Lts as lts
 
 returns : tie.Need-returns
 returns c = absent-is (c .args .there) (c .args .w)

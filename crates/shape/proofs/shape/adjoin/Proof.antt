@@ -10,11 +10,6 @@ use Rattle.definition.specs.Contents.{contents}
 use Rattle.shape.proofs.Sections.{sectionsFrom, follows-within, adjoin-short, adjoin-start, adjoin-turn, adjoin-stop, adjoin-end}
 use Rattle.shape.proofs.shape.adjoin.Statement.{statement}
 use Rattle.shape.proofs.shape.adjoin.Tie as tie
-use Rattle.shape.proofs.shape.adjoin.Reads as reads
-use Rattle.shape.proofs.shape.adjoin.Lts as lts
-use Rattle.shape.proofs.shape.bytes_of.Reads as bytes-of-reads
-use Rattle.shape.proofs.shape.follows.Reads as follows-reads
-use Rattle.records.proofs.contents.size_of.Reads as size-of-reads
 
 abbrev Inv-loop : tie.InvT-loop
 Inv-loop e f end from₀ s₀ from s = (adjoin f (contents (editionOf e)) 0 (editionOf e .sections) ≡ adjoin f from s (sectionsFrom e s)) × (from ≤ length f) × (end ≡ length f)

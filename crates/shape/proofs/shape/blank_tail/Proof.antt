@@ -2,9 +2,6 @@ use Rattle.shape.proofs.Shapes.{tail-is}
 use borrow.Author.Needs.{needs}
 use Rattle.shape.proofs.shape.blank_tail.Statement.{statement}
 use Rattle.shape.proofs.shape.blank_tail.Tie as tie
-use Rattle.shape.proofs.shape.blank_tail.Reads as reads
-use Rattle.shape.proofs.shape.blank_tail.Lts as lts
-use Rattle.records.proofs.owners.stmt_field.Reads as stmt-field-reads
 
 stmt-field-requires : tie.Need-stmt-field-requires
 stmt-field-requires c κs = search needs

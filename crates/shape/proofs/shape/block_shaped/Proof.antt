@@ -2,10 +2,6 @@ use Rattle.shape.proofs.Shapes.{block-is}
 use borrow.Author.Needs.{needs}
 use Rattle.shape.proofs.shape.block_shaped.Statement.{statement}
 use Rattle.shape.proofs.shape.block_shaped.Tie as tie
-use Rattle.shape.proofs.shape.block_shaped.Reads as reads
-use Rattle.shape.proofs.shape.block_shaped.Lts as lts
-use Rattle.shape.proofs.shape.optional.Reads as optional-reads
-use Rattle.records.proofs.contents.block_word.Reads as block-word-reads
 
 block-word-requires : tie.Need-block-word-requires
 block-word-requires c κs = search needs

@@ -2,10 +2,6 @@ use Rattle.shape.proofs.Shapes.{branch-is}
 use borrow.Author.Needs.{needs}
 use Rattle.shape.proofs.shape.branch_shaped.Statement.{statement}
 use Rattle.shape.proofs.shape.branch_shaped.Tie as tie
-use Rattle.shape.proofs.shape.branch_shaped.Reads as reads
-use Rattle.shape.proofs.shape.branch_shaped.Lts as lts
-use Rattle.shape.proofs.shape.optional.Reads as optional-reads
-use Rattle.records.proofs.owners.stmt_field.Reads as stmt-field-reads
 
 stmt-field-requires : tie.Need-stmt-field-requires
 stmt-field-requires c κs = search needs

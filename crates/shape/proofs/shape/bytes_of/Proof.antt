@@ -2,8 +2,6 @@ use native.Mathlib.Omega.{arith}
 use Rattle.shape.proofs.Sections.{bytes-plain, bytes-words, product}
 use Rattle.shape.proofs.shape.bytes_of.Statement.{statement}
 use Rattle.shape.proofs.shape.bytes_of.Tie as tie
-use Rattle.shape.proofs.shape.bytes_of.Reads as reads
-use Rattle.shape.proofs.shape.bytes_of.Lts as lts
 
 returns : tie.Need-returns
 returns c = bytes-plain (c .before .args .w) (c .before .args .n) (c .if1 .taken)

@@ -2,10 +2,6 @@ use Rattle.shape.proofs.Shapes.{expr-is}
 use borrow.Author.Needs.{needs}
 use Rattle.shape.proofs.shape.expr_shaped.Statement.{statement}
 use Rattle.shape.proofs.shape.expr_shaped.Tie as tie
-use Rattle.shape.proofs.shape.expr_shaped.Reads as reads
-use Rattle.shape.proofs.shape.expr_shaped.Lts as lts
-use Rattle.shape.proofs.shape.tag_shaped.Reads as tag-shaped-reads
-use Rattle.records.proofs.contents.expr_word.Reads as expr-word-reads
 
 expr-word-requires : tie.Need-expr-word-requires
 expr-word-requires c κs = search needs

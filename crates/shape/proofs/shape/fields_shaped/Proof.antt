@@ -2,16 +2,6 @@ use Rattle.shape.proofs.Shapes.{assign-is, of-kind, no-kind}
 use borrow.Author.Needs.{needs}
 use Rattle.shape.proofs.shape.fields_shaped.Statement.{statement}
 use Rattle.shape.proofs.shape.fields_shaped.Tie as tie
-use Rattle.shape.proofs.shape.fields_shaped.Reads as reads
-use Rattle.shape.proofs.shape.fields_shaped.Lts as lts
-use Rattle.shape.proofs.shape.blank_tail.Reads as blank-tail-reads
-use Rattle.shape.proofs.shape.branch_shaped.Reads as branch-shaped-reads
-use Rattle.shape.proofs.shape.call_shaped.Reads as call-shaped-reads
-use Rattle.shape.proofs.shape.flags_shaped.Reads as flags-shaped-reads
-use Rattle.shape.proofs.shape.other_shaped.Reads as other-shaped-reads
-use Rattle.shape.proofs.shape.return_shaped.Reads as return-shaped-reads
-use Rattle.shape.proofs.shape.store_shaped.Reads as store-shaped-reads
-use Rattle.records.proofs.owners.stmt_kind.Reads as stmt-kind-reads
 
 stmt-kind-requires : tie.Need-stmt-kind-requires
 stmt-kind-requires c κs = search needs

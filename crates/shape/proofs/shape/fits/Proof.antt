@@ -2,8 +2,6 @@ use native.Mathlib.Omega.{arith}
 use Rattle.shape.proofs.Sections.{fits-plain, fits-words, product}
 use Rattle.shape.proofs.shape.fits.Statement.{statement}
 use Rattle.shape.proofs.shape.fits.Tie as tie
-use Rattle.shape.proofs.shape.fits.Reads as reads
-use Rattle.shape.proofs.shape.fits.Lts as lts
 
 returns : tie.Need-returns
 returns c = let a = c .before .args in fits-plain (a .w) (a .n) (a .room) (c .if1 .taken)

@@ -2,10 +2,6 @@ use Rattle.shape.proofs.Sections.{follows-is}
 use borrow.Author.Needs.{needs}
 use Rattle.shape.proofs.shape.follows.Statement.{statement}
 use Rattle.shape.proofs.shape.follows.Tie as tie
-use Rattle.shape.proofs.shape.follows.Reads as reads
-use Rattle.shape.proofs.shape.follows.Lts as lts
-use Rattle.shape.proofs.shape.fits.Reads as fits-reads
-use Rattle.records.proofs.contents.offset_of.Reads as offset-of-reads
 
 offset-of-requires : tie.Need-offset-of-requires
 offset-of-requires c κs = search needs

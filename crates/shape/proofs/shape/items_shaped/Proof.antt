@@ -7,16 +7,12 @@ use mathlib.Core.Bool.{true}
 use Rattle.definition.specs.Owners.{exprItems}
 use Rattle.definition.specs.Lists.{allBelow}
 use Rattle.shape.proofs.Shapes.{itemTest, items-is, item-word, cut-exprs}
-use Rattle.shape.proofs.Below.{all-turn, all-fail, all-done}
+use Rattle.records.proofs.Below.{all-start, all-turn, all-fail, all-done}
 use Rattle.shape.proofs.shape.items_shaped.Statement.{statement}
 use Rattle.shape.proofs.shape.items_shaped.Tie as tie
-use Rattle.shape.proofs.shape.items_shaped.Reads as reads
-use Rattle.shape.proofs.shape.items_shaped.Lts as lts
-use Rattle.records.proofs.contents.item_word.Reads as item-word-reads
-use Rattle.records.proofs.owners.expr_items.Reads as expr-items-reads
 
 abbrev Inv-loop : tie.InvT-loop
-Inv-loop f i at n k₀ k = (true ≡ allBelow k (itemTest f i)) × (k ≤ n) × (n ≡ exprItems f i)
+Inv-loop f i at n k₀ k = (allBelow k (itemTest f i) ≡ true) × (k ≤ n) × (n ≡ exprItems f i)
 
 abbrev μ-loop : tie.MeasureT-loop
 μ-loop f i at n k₀ k = n - k
@@ -28,8 +24,7 @@ cast-n : tie.Need-cast-n Inv-loop μ-loop
 cast-n c = search needs
 
 loop-holds : tie.Need-loop-holds Inv-loop μ-loop
-unfolding allBelow
-loop-holds c = (refl, omega arith, c .expr-items .ensures)
+loop-holds c = (all-start _, omega arith, c .expr-items .ensures)
 
 add-item-word : tie.Need-add-item-word Inv-loop μ-loop
 add-item-word c = let a = c .before .before .before .before .args in omega (arith, cut-exprs (a .f .now) (a .i) (a .at) (c .before .before .before .before .pre))
@@ -41,9 +36,8 @@ item-word-requires : tie.Need-item-word-requires Inv-loop μ-loop
 item-word-requires c κs = search needs
 
 returns : tie.Need-returns Inv-loop μ-loop
-returns c = let a = c .before .before .before .before .before .before .args in
-    let test = item-word (a .f .now) (a .i) (a .at) (c .before .before .before .loop .k) (c .before .item-word .result) (c .before .before .before .before .before .before .pre .first) (c .before .item-word .ensures) in
-    all-fail (itemTest (a .f .now) (a .i)) (c .before .before .before .loop .k) (exprItems (a .f .now) (a .i)) (omega arith) (sym test ∙ ne-eqb (c .before .item-word .result) 0 (c .if1 .taken)) ∙ sym (items-is (a .f .now) (a .i))
+returns c = let test = item-word _ _ _ (c .before .before .before .loop .k) _ (c .before .before .before .before .before .before .pre .first) (c .before .item-word .ensures) in
+    all-fail _ (c .before .before .before .loop .inv .2) (sym (ne-eqb _ 0 (c .if1 .taken)) ∙ test) (c .before .before .loop-test .taken) refl ∙ sym (items-is _ _)
 
 add-k : tie.Need-add-k Inv-loop μ-loop
 add-k c = omega arith
@@ -52,13 +46,11 @@ loop-less : tie.Need-loop-less Inv-loop μ-loop
 loop-less c = omega arith
 
 loop-again : tie.Need-loop-again Inv-loop μ-loop
-loop-again c = let a = c .before .before .before .before .before .before .args in
-    let test = item-word (a .f .now) (a .i) (a .at) (c .before .before .before .loop .k) (c .before .item-word .result) (c .before .before .before .before .before .before .pre .first) (c .before .item-word .ensures) in
-    (all-turn (itemTest (a .f .now) (a .i)) (c .before .before .before .loop .k) (c .before .before .before .loop .inv .0) (sym test ∙ eq-eqb (c .before .item-word .result) 0 (c .if1 .left)), omega arith, c .before .before .before .loop .inv .2)
+loop-again c = let test = item-word _ _ _ (c .before .before .before .loop .k) _ (c .before .before .before .before .before .before .pre .first) (c .before .item-word .ensures) in
+    (all-turn _ (sym (eq-eqb _ 0 (c .if1 .left)) ∙ test) (c .before .before .before .loop .inv .0) refl, omega arith, c .before .before .before .loop .inv .2)
 
 returns-2 : tie.Need-returns-2 Inv-loop μ-loop
-returns-2 c = let a = c .before .before .before .before .args in
-    all-done (itemTest (a .f .now) (a .i)) (c .before .loop .k) (exprItems (a .f .now) (a .i)) (omega arith) (omega arith) (c .before .loop .inv .0) ∙ sym (items-is (a .f .now) (a .i))
+returns-2 c = all-done _ (c .before .loop .inv .2) (c .before .loop .inv .0) (omega arith) ∙ sym (items-is _ _)
 
 pub items-shaped-spec : {M : Type 1} → statement M
 items-shaped-spec =

@@ -2,9 +2,6 @@ use Rattle.shape.proofs.Shapes.{optional-is}
 use borrow.Author.Needs.{needs}
 use Rattle.shape.proofs.shape.optional.Statement.{statement}
 use Rattle.shape.proofs.shape.optional.Tie as tie
-use Rattle.shape.proofs.shape.optional.Reads as reads
-use Rattle.shape.proofs.shape.optional.Lts as lts
-use Rattle.shape.proofs.shape.absent.Reads as absent-reads
 
 absent-requires : tie.Need-absent-requires
 absent-requires c κs = search needs

@@ -2,10 +2,6 @@ use Rattle.shape.proofs.Shapes.{owned-is}
 use borrow.Author.Needs.{needs}
 use Rattle.shape.proofs.shape.owned.Statement.{statement}
 use Rattle.shape.proofs.shape.owned.Tie as tie
-use Rattle.shape.proofs.shape.owned.Reads as reads
-use Rattle.shape.proofs.shape.owned.Lts as lts
-use Rattle.shape.proofs.shape.add_up.Reads as add-up-reads
-use Rattle.records.proofs.contents.size_of.Reads as size-of-reads
 
 size-of-requires : tie.Need-size-of-requires
 size-of-requires c κs = search needs

@@ -4,12 +4,6 @@ use Rattle.shape.specs.Shapes.{partsOf}
 use borrow.Author.Needs.{needs}
 use Rattle.shape.proofs.shape.parts_of.Statement.{statement}
 use Rattle.shape.proofs.shape.parts_of.Tie as tie
-use Rattle.shape.proofs.shape.parts_of.Reads as reads
-use Rattle.shape.proofs.shape.parts_of.Lts as lts
-use Rattle.records.proofs.owners.block_phis.Reads as block-phis-reads
-use Rattle.records.proofs.owners.block_stmts.Reads as block-stmts-reads
-use Rattle.records.proofs.owners.items_of.Reads as items-of-reads
-use Rattle.records.proofs.owners.phi_inputs.Reads as phi-inputs-reads
 
 enum-told : tie.Need-enum-told
 enum-told c = search needs

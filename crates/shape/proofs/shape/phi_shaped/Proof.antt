@@ -2,9 +2,6 @@ use Rattle.shape.proofs.Shapes.{phi-is}
 use borrow.Author.Needs.{needs}
 use Rattle.shape.proofs.shape.phi_shaped.Statement.{statement}
 use Rattle.shape.proofs.shape.phi_shaped.Tie as tie
-use Rattle.shape.proofs.shape.phi_shaped.Reads as reads
-use Rattle.shape.proofs.shape.phi_shaped.Lts as lts
-use Rattle.records.proofs.contents.phi_word.Reads as phi-word-reads
 
 phi-word-requires : tie.Need-phi-word-requires
 phi-word-requires c κs = search needs

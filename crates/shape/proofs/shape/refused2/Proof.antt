@@ -2,9 +2,6 @@ use Rattle.shape.proofs.Sections.{refused2-is}
 use borrow.Author.Needs.{needs}
 use Rattle.shape.proofs.shape.refused2.Statement.{statement}
 use Rattle.shape.proofs.shape.refused2.Tie as tie
-use Rattle.shape.proofs.shape.refused2.Reads as reads
-use Rattle.shape.proofs.shape.refused2.Lts as lts
-use Rattle.words.proofs.word_at.Reads as word-at-reads
 
 contents-requires : tie.Need-contents-requires
 contents-requires c κs = search needs

@@ -2,9 +2,6 @@ use Rattle.shape.proofs.Sections.{refused3-is}
 use borrow.Author.Needs.{needs}
 use Rattle.shape.proofs.shape.refused3.Statement.{statement}
 use Rattle.shape.proofs.shape.refused3.Tie as tie
-use Rattle.shape.proofs.shape.refused3.Reads as reads
-use Rattle.shape.proofs.shape.refused3.Lts as lts
-use Rattle.shape.proofs.shape.too_many.Reads as too-many-reads
 
 cast-result : tie.Need-cast-result
 cast-result c = search needs

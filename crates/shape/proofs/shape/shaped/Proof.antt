@@ -2,13 +2,6 @@ use Rattle.shape.proofs.Shapes.{shaped-is}
 use borrow.Author.Needs.{needs}
 use Rattle.shape.proofs.shape.shaped.Statement.{statement}
 use Rattle.shape.proofs.shape.shaped.Tie as tie
-use Rattle.shape.proofs.shape.shaped.Reads as reads
-use Rattle.shape.proofs.shape.shaped.Lts as lts
-use Rattle.shape.proofs.shape.blocks_shaped.Reads as blocks-shaped-reads
-use Rattle.shape.proofs.shape.exprs_shaped.Reads as exprs-shaped-reads
-use Rattle.shape.proofs.shape.phis_shaped.Reads as phis-shaped-reads
-use Rattle.shape.proofs.shape.stmts_shaped.Reads as stmts-shaped-reads
-use Rattle.words.proofs.word_at.Reads as word-at-reads
 
 word-at-requires : tie.Need-word-at-requires
 word-at-requires c κs = search needs

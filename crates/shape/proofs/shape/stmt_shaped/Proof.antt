@@ -2,11 +2,6 @@ use Rattle.shape.proofs.Shapes.{stmt-is}
 use borrow.Author.Needs.{needs}
 use Rattle.shape.proofs.shape.stmt_shaped.Statement.{statement}
 use Rattle.shape.proofs.shape.stmt_shaped.Tie as tie
-use Rattle.shape.proofs.shape.stmt_shaped.Reads as reads
-use Rattle.shape.proofs.shape.stmt_shaped.Lts as lts
-use Rattle.shape.proofs.shape.fields_shaped.Reads as fields-shaped-reads
-use Rattle.shape.proofs.shape.items_shaped.Reads as items-shaped-reads
-use Rattle.records.proofs.contents.stmt_word.Reads as stmt-word-reads
 
 stmt-word-requires : tie.Need-stmt-word-requires
 stmt-word-requires c κs = search needs

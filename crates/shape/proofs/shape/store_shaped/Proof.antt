@@ -2,10 +2,6 @@ use Rattle.shape.proofs.Shapes.{store-is}
 use borrow.Author.Needs.{needs}
 use Rattle.shape.proofs.shape.store_shaped.Statement.{statement}
 use Rattle.shape.proofs.shape.store_shaped.Tie as tie
-use Rattle.shape.proofs.shape.store_shaped.Reads as reads
-use Rattle.shape.proofs.shape.store_shaped.Lts as lts
-use Rattle.shape.proofs.shape.blank_tail.Reads as blank-tail-reads
-use Rattle.records.proofs.owners.stmt_field.Reads as stmt-field-reads
 
 stmt-field-requires : tie.Need-stmt-field-requires
 stmt-field-requires c κs = search needs

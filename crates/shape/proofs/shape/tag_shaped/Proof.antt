@@ -1,8 +1,6 @@
 use Rattle.shape.proofs.Shapes.{bin-is, un-is, load-is, plain-is}
 use Rattle.shape.proofs.shape.tag_shaped.Statement.{statement}
 use Rattle.shape.proofs.shape.tag_shaped.Tie as tie
-use Rattle.shape.proofs.shape.tag_shaped.Reads as reads
-use Rattle.shape.proofs.shape.tag_shaped.Lts as lts
 
 returns : tie.Need-returns
 returns c = bin-is _ _ _ _ (c .if1 .taken)

@@ -7,9 +7,6 @@ use Rattle.definition.specs.Shape.{tooMany}
 use Rattle.shape.proofs.Sections.{sectionsFrom, many-start, many-hit, many-turn, many-end}
 use Rattle.shape.proofs.shape.too_many.Statement.{statement}
 use Rattle.shape.proofs.shape.too_many.Tie as tie
-use Rattle.shape.proofs.shape.too_many.Reads as reads
-use Rattle.shape.proofs.shape.too_many.Lts as lts
-use Rattle.records.proofs.contents.size_of.Reads as size-of-reads
 
 abbrev Inv-loop : tie.InvT-loop
 Inv-loop e f s₀ s = tooMany f 0 (editionOf e .sections) ≡ tooMany f s (sectionsFrom e s)

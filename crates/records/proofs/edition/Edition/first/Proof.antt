@@ -4,8 +4,6 @@ use Rattle.definition.specs.Lists.{range}
 use Rattle.definition.specs.Edition.{edition1}
 use Rattle.records.proofs.edition.Edition.first.Statement.{statement}
 use Rattle.records.proofs.edition.Edition.first.Tie as tie
-use Rattle.records.proofs.edition.Edition.first.Reads as reads
-use Rattle.records.proofs.edition.Edition.first.Lts as lts
 
 returns : tie.Need-returns
 unfolding editionOf wordsAt limitAt range edition1

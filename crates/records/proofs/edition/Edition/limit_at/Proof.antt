@@ -4,23 +4,17 @@ use native.Mathlib.Omega.{arith}
 use borrow.Author.Needs.{needs}
 use Rattle.records.proofs.edition.Edition.limit_at.Statement.{statement}
 use Rattle.records.proofs.edition.Edition.limit_at.Tie as tie
-use Rattle.records.proofs.edition.Edition.limit_at.Reads as reads
-use Rattle.records.proofs.edition.Edition.limit_at.Lts as lts
 
--- src/edition.rt:74:20
 mul-result : tie.Need-mul-result
 mul-result c = search needs
 
--- src/edition.rt:74:20
 element-copy-out-result : tie.Need-element-copy-out-result
 element-copy-out-result c = search needs
 
--- src/edition.rt:74:13
 returns : tie.Need-returns
 unfolding limitAt
 returns c = within (c .before .before .args .t1 .limits) (c .before .before .args .s) _ (c .before .if1 .taken) (search needs)
 
--- src/edition.rt:69:5
 returns-2 : tie.Need-returns-2
 unfolding limitAt
 returns-2 c = past (c .before .args .t1 .limits) (c .before .args .s) (omega arith)

@@ -3,18 +3,13 @@ use native.Mathlib.Omega.{arith}
 use borrow.Author.Needs.{needs}
 use Rattle.records.proofs.edition.Edition.text.Statement.{statement}
 use Rattle.records.proofs.edition.Edition.text.Tie as tie
-use Rattle.records.proofs.edition.Edition.text.Reads as reads
-use Rattle.records.proofs.edition.Edition.text.Lts as lts
 
--- src/edition.rt:53:13
 returns : tie.Need-returns
 returns c = text-is _ _ (omega arith)
 
--- src/edition.rt:55:9
 sub-result : tie.Need-sub-result
 sub-result c = search needs
 
--- src/edition.rt:49:5
 returns-2 : tie.Need-returns-2
 returns-2 c = text-is _ _ (omega arith)
 

@@ -1,0 +1,23 @@
+use borrow.Author.Needs.{needs}
+use Rattle.meaning.proofs.RegistersNamed.{none-named, one-named}
+use Rattle.meaning.proofs.registers_named.defined_named.Statement.{statement}
+use Rattle.meaning.proofs.registers_named.defined_named.Tie as tie
+
+enum-told : tie.Need-enum-told
+enum-told c = search needs
+
+enum-known-d : tie.Need-enum-known-d
+enum-known-d c = search needs
+
+is-register-requires : tie.Need-is-register-requires
+is-register-requires c κs = search needs
+
+returns : tie.Need-returns
+returns c = none-named (c .before .before .args .d) (cc)
+
+returns-2 : tie.Need-returns-2
+returns-2 c = one-named (c .before .before .before .before .args .d) (c .before .before .d .given .0 .0) _ (cc) (c .is-register .ensures)
+
+pub defined-named-spec : {M : Type 1} → statement M
+defined-named-spec =
+    tie.close (tie.spec enum-told enum-known-d is-register-requires returns returns-2)

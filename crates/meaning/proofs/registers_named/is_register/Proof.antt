@@ -1,0 +1,9 @@
+use lib.Dec.{leb·suc-suc}
+use Rattle.meaning.proofs.registers_named.is_register.Statement.{statement}
+use Rattle.meaning.proofs.registers_named.is_register.Tie as tie
+
+returns : tie.Need-returns
+returns c = leb·suc-suc (c .args .r) 15
+
+pub is-register-spec : {M : Type 1} → statement M
+is-register-spec = tie.close (tie.spec returns)

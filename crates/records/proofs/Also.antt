@@ -1,0 +1,26 @@
+-- Tests joined by `&&`: what both say, and where the first decides.
+use mathlib.Core.Path.{_≡_, refl}
+use mathlib.Core.Bool.{Bool, true, false, not, _&&_}
+use borrow.Author.Tests.{not-true, not-false}
+
+pub and-both : (a b : Bool) → (a && b) ≡ true → (a ≡ true) × (b ≡ true)
+and-both true b e = (refl, e)
+and-both false b e = (e, cc)
+
+pub and-cross : (a b c d : Bool) → (a && b && (c && d)) ≡ (a && c && (b && d))
+and-cross true true c d = refl
+and-cross true false true d = refl
+and-cross true false false d = refl
+and-cross false b c d = refl
+
+-- one test behind the other; shut, so that a proof that cites the laws need not write the tests
+unfoldable pub also : Bool → Bool → Bool
+also a b = a && b
+
+pub also-stop : {a t : Bool} (b : Bool) → t ≡ a → not t ≡ true → false ≡ also a b
+unfolding also
+also-stop {a} {t} b e h = rw (← e, not-true t h)
+
+pub also-go : {a b t u : Bool} → t ≡ a → not t ≡ false → u ≡ b → u ≡ also a b
+unfolding also
+also-go {a} {b} {t} e h k = rw (← e, not-false t h) k

@@ -1,0 +1,119 @@
+-- What each return of the functions comes to, over plain numbers and lists.
+use mathlib.Core.Path.{_≡_, refl, sym, ap, _∙_}
+use mathlib.Core.Bool.{Bool}
+use mathlib.Core.List.{List}
+use Prim.Native.Nat.{ℕ, _+_, _-_, _/_, _%_, _≤_, _<_}
+use native.Mathlib.Omega.{arith}
+use lib.Dec.{eqb}
+use borrow.Author.Tests.{le-leb, lt-leb, ne-eqb}
+use Rattle.definition.specs.Contents.{phiWord, exprWord, exprLong}
+use Rattle.definition.specs.Owners.{stmtKind, phiInputs}
+use Rattle.definition.specs.Values.{Value as DValue}
+use Rattle.definition.specs.Meaning.{phiValue}
+use Rattle.meaning.specs.declared.value.Value.{Value}
+use Rattle.meaning.specs.Defined.{valueOf}
+use Rattle.ssa.specs.Parts.{behindOf}
+use Rattle.ssa.specs.Statement.{assignRecord, storeRecord, callRecord, branchRecord, flagsRecord, returnRecord, otherRecord, kindRecord, markOf}
+use Rattle.ssa.specs.Block.{phiRecord}
+use Rattle.ssa.specs.Node.{textRecord, useRecord, binRecord, unRecord, loadRecord, nodeRecord}
+use Rattle.ssa.specs.declared.statement.Assign.{Assign as AssignS}
+use Rattle.ssa.specs.declared.statement.Store.{Store as StoreS}
+use Rattle.ssa.specs.declared.statement.Call.{Call as CallS}
+use Rattle.ssa.specs.declared.statement.Branch.{Branch as BranchS}
+use Rattle.ssa.specs.declared.statement.Flags.{Flags as FlagsS}
+use Rattle.ssa.specs.declared.statement.Return.{Return as ReturnS}
+use Rattle.ssa.specs.declared.statement.Other.{Other as OtherS}
+use Rattle.ssa.specs.declared.statement.Kind.the-variants.{Assign, Store, Call, Branch, Flags, Return, Other}
+use Rattle.ssa.specs.declared.parts.Text.{Text}
+use Rattle.ssa.specs.declared.block.Phi.{Phi}
+use Rattle.ssa.specs.declared.node.Bin.{Bin as BinS}
+use Rattle.ssa.specs.declared.node.Un.{Un as UnS}
+use Rattle.ssa.specs.declared.node.Load.{Load as LoadS}
+use Rattle.ssa.specs.declared.node.Node.the-variants.{Const, Use, Bin, Un, Load, Opaque}
+
+-- ---- parts
+pub behind-fits : (a n : ℕ) → n ≤ 4294967295 - a → a + n ≡ behindOf a n
+unfolding behindOf
+behind-fits a n h = rw (le-leb n (4294967295 - a) h)
+
+pub behind-last : (a n : ℕ) → 4294967295 - a < n → 4294967295 ≡ behindOf a n
+unfolding behindOf
+behind-last a n h = rw (lt-leb n (4294967295 - a) h)
+
+-- ---- marks
+pub first-mark : (w : ℕ) → eqb (w % 2) 1 ≡ markOf w 1
+unfolding markOf
+first-mark w = let e : w / 1 ≡ w = omega arith in rw e
+
+pub mark-is : (w m : ℕ) → eqb (w / m % 2) 1 ≡ markOf w m
+unfolding markOf
+mark-is w m = refl
+
+-- ---- a statement, whose kind k was read
+module _ (f : List ℕ) (i first k : ℕ) (kind : k ≡ stmtKind f i) where
+  pub is-assign : (s : AssignS) → k ≡ 1 → s ≡ assignRecord f i → Assign s ≡ kindRecord f i first
+  unfolding kindRecord
+  is-assign s e h = rw (sym kind ∙ e) (ap Assign h)
+
+  pub is-store : (s : StoreS) → k ≡ 2 → s ≡ storeRecord f i → Store s ≡ kindRecord f i first
+  unfolding kindRecord
+  is-store s e h = rw (sym kind ∙ e) (ap Store h)
+
+  pub is-call : (s : CallS) → k ≡ 3 → s ≡ callRecord f i first → Call s ≡ kindRecord f i first
+  unfolding kindRecord
+  is-call s e h = rw (sym kind ∙ e) (ap Call h)
+
+  pub is-branch : (s : BranchS) → k ≡ 4 → s ≡ branchRecord f i first → Branch s ≡ kindRecord f i first
+  unfolding kindRecord
+  is-branch s e h = rw (sym kind ∙ e) (ap Branch h)
+
+  pub is-flags : (s : FlagsS) → k ≡ 5 → s ≡ flagsRecord f i → Flags s ≡ kindRecord f i first
+  unfolding kindRecord
+  is-flags s e h = rw (sym kind ∙ e) (ap Flags h)
+
+  pub is-return : (s : ReturnS) → k ≡ 6 → s ≡ returnRecord f i → Return s ≡ kindRecord f i first
+  unfolding kindRecord
+  is-return s e h = rw (sym kind ∙ e) (ap Return h)
+
+  pub is-other : (s : OtherS) → (k ≡ 1 → ⊥) → (k ≡ 2 → ⊥) → (k ≡ 3 → ⊥) → (k ≡ 4 → ⊥) → (k ≡ 5 → ⊥) → (k ≡ 6 → ⊥)
+      → s ≡ otherRecord f i first → Other s ≡ kindRecord f i first
+  unfolding kindRecord
+  is-other s a b c d e g h = rw (← kind, ne-eqb k 1 a, ne-eqb k 2 b, ne-eqb k 3 c, ne-eqb k 4 d, ne-eqb k 5 e, ne-eqb k 6 g) (ap Other h)
+
+-- ---- a phi
+phi-made : (f : List ℕ) (i r n : ℕ) (d : Bool) (m : ℕ) → r ≡ phiWord f i 0 → n ≡ phiWord f i 1 → d ≡ eqb (phiWord f i 2) 1 → m ≡ phiInputs f i
+    → _≡_ {A = Phi} (record { value = record { reg = r; ver = n }; dead = d; inputs = m }) (phiRecord f i)
+unfolding phiRecord
+phi-made f i r n d m p q e h = cc
+
+pub phi-is : (f : List ℕ) (i : ℕ) (v : Value) (w m : ℕ) → valueOf v ≡ phiValue f i → w ≡ phiWord f i 2 → m ≡ phiInputs f i
+    → _≡_ {A = Phi} (record { value = v; dead = eqb w 1; inputs = m }) (phiRecord f i)
+unfolding phiValue
+phi-is f i v w m p e h =
+    phi-made f i (v .reg) (v .ver) (eqb w 1) m (ap (λ (u : DValue). u .reg) p) (ap (λ (u : DValue). u .ver) p) (ap (λ (x : ℕ). eqb x 1) e) h
+
+-- ---- a node, whose tag g was read
+module _ (f : List ℕ) (n g : ℕ) (tag : g ≡ exprWord f n 0) where
+  pub is-const : (c : ℕ) → g ≡ 1 → c ≡ exprLong f n 1 → Const c ≡ nodeRecord f n
+  unfolding nodeRecord
+  is-const c e h = rw (sym tag ∙ e) (ap Const h)
+
+  pub is-use : (v : Value) → g ≡ 2 → v ≡ useRecord f n → Use v ≡ nodeRecord f n
+  unfolding nodeRecord
+  is-use v e h = rw (sym tag ∙ e) (ap Use h)
+
+  pub is-bin : (s : BinS) → g ≡ 3 → s ≡ binRecord f n → Bin s ≡ nodeRecord f n
+  unfolding nodeRecord
+  is-bin s e h = rw (sym tag ∙ e) (ap Bin h)
+
+  pub is-un : (s : UnS) → g ≡ 4 → s ≡ unRecord f n → Un s ≡ nodeRecord f n
+  unfolding nodeRecord
+  is-un s e h = rw (sym tag ∙ e) (ap Un h)
+
+  pub is-load : (s : LoadS) → g ≡ 5 → s ≡ loadRecord f n → Load s ≡ nodeRecord f n
+  unfolding nodeRecord
+  is-load s e h = rw (sym tag ∙ e) (ap Load h)
+
+  pub is-opaque : (s : Text) → (g ≡ 1 → ⊥) → (g ≡ 2 → ⊥) → (g ≡ 3 → ⊥) → (g ≡ 4 → ⊥) → (g ≡ 5 → ⊥) → s ≡ textRecord f n → Opaque s ≡ nodeRecord f n
+  unfolding nodeRecord
+  is-opaque s a b c d e h = rw (← tag, ne-eqb g 1 a, ne-eqb g 2 b, ne-eqb g 3 c, ne-eqb g 4 d, ne-eqb g 5 e) (ap Opaque h)

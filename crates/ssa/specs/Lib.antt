@@ -1,0 +1,5 @@
+pub mod Parts
+pub mod Statement
+pub mod Block
+pub mod Node
+pub mod View
