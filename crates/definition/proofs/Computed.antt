@@ -31,7 +31,7 @@ use Rattle.definition.specs.Lookup.{nameFor, sizePrefix, nameOr, globalN
 use Rattle.definition.specs.Render.{openedAt, variable, useOr, addressOr, nested, pointer, through, slotOr, globalOf, globalOr, operator, expr, e, openNext, openAll}
 use Rattle.definition.specs.Condition.{codeOf, shown, signText, sideTokens, unsignedTokens, shownTokens, settingOf, lastSetter, setterOf, comparison, conditionOf, condition}
 use Rattle.definition.specs.Intel.{half, wrapped, misfits, afterCmp, afterTest, afterFlags, after, intel, relates, sideValue, reading, holds, opposite, flipped}
-use Rattle.definition.specs.Lower.{gotoTokens, isStackLoad, isSaved, restores, assign, isCall, takes, saves, silent, store, isRead, resultTokens, nameForHex, direct, slotName, indirect, isIndirect, commaList, pushed, countSet, callArgs, call, fallLine, branchIf, tailCall, leave, firstOf, branchTo, branch, returnTokens, return, nameList, asm, other, lowerKind}
+use Rattle.definition.specs.Lower.{gotoTokens, isStackLoad, isSaved, restores, assign, isCall, takes, saves, silent, store, isRead, resultTokens, nameForHex, direct, slotName, indirect, isIndirect, commaList, pushed, countSet, callArgs, call, fallLine, branchIf, tailCall, leave, firstOf, branchTo, branch, returnTokens, return, nameList, asm, other, waiting, lowerKind}
 use Rattle.definition.specs.Blocks.{pendAfter, setAfter, lowerStmts, leaves, lastLeaves, closing, labelLine, lowerBlock, lowerBlocks, isSave, readRoots, lowering, lower}
 use Rattle.definition.specs.Sorts.{isTok, firstIs, isLabel, firstText, firstSymbol, gotoTarget, sortJump, sortRest, sortAt, sortOf}
 use Rattle.definition.specs.Negate.{beforeGoto, tail, trimFirst, cutLast, condOf, flips, compares, flipIn, comparisons, flipAt, flippable, negate, openTokens, closeTokens, doTokens, whileTokens}
@@ -312,21 +312,21 @@ pair159 = record {
   };
 }
 
--- file 233
-abbrev pair233 : Pair
-pair233 = record {
-  file = 1 ∷ 0 ∷ 0 ∷ 0 ∷ 32 ∷ 0 ∷ 0 ∷ 0 ∷ 0 ∷ 0 ∷ 0 ∷ 0 ∷ 0 ∷ 0 ∷ 0 ∷ 0 ∷ 88 ∷ 0 ∷ 0 ∷ 0 ∷ 15 ∷ 0 ∷ 0 ∷ 0 ∷ 148 ∷ 0 ∷ 0 ∷ 0 ∷ 1 ∷ 0 ∷ 0 ∷ 0 ∷ 188 ∷ 0 ∷ 0 ∷ 0 ∷ 2 ∷ 0 ∷ 0 ∷ 0 ∷ 220 ∷ 0 ∷ 0 ∷ 0 ∷ 3 ∷ 0 ∷ 0 ∷ 0 ∷ 232 ∷ 0 ∷ 0 ∷ 0 ∷ 5 ∷ 0 ∷ 0 ∷ 0 ∷ 196 ∷ 1 ∷ 0 ∷ 0 ∷ 3 ∷ 0 ∷ 0 ∷ 0 ∷ 220 ∷ 1 ∷ 0 ∷ 0 ∷ 11 ∷ 0 ∷ 0 ∷ 0 ∷ 184 ∷ 2 ∷ 0 ∷ 0 ∷ 4 ∷ 0 ∷ 0 ∷ 0 ∷ 248 ∷ 2 ∷ 0 ∷ 0 ∷ 18 ∷ 0 ∷ 0 ∷ 0 ∷ 10 ∷ 0 ∷ 0 ∷ 0 ∷ 9 ∷ 0 ∷ 0 ∷ 0 ∷ 12 ∷ 0 ∷ 0 ∷ 0 ∷ 8 ∷ 0 ∷ 0 ∷ 0 ∷ 7 ∷ 0 ∷ 0 ∷ 0 ∷ 15 ∷ 0 ∷ 0 ∷ 0 ∷ 14 ∷ 0 ∷ 0 ∷ 0 ∷ 11 ∷ 0 ∷ 0 ∷ 0 ∷ 3 ∷ 0 ∷ 0 ∷ 0 ∷ 13 ∷ 0 ∷ 0 ∷ 0 ∷ 0 ∷ 0 ∷ 0 ∷ 0 ∷ 6 ∷ 0 ∷ 0 ∷ 0 ∷ 2 ∷ 0 ∷ 0 ∷ 0 ∷ 1 ∷ 0 ∷ 0 ∷ 0 ∷ 5 ∷ 0 ∷ 0 ∷ 0 ∷ 0 ∷ 16 ∷ 0 ∷ 0 ∷ 0 ∷ 0 ∷ 0 ∷ 0 ∷ 1 ∷ 0 ∷ 0 ∷ 0 ∷ 0 ∷ 16 ∷ 0 ∷ 0 ∷ 0 ∷ 0 ∷ 0 ∷ 0 ∷ 1 ∷ 0 ∷ 0 ∷ 0 ∷ 0 ∷ 32 ∷ 0 ∷ 0 ∷ 0 ∷ 0 ∷ 0 ∷ 0 ∷ 2 ∷ 0 ∷ 0 ∷ 0 ∷ 5 ∷ 0 ∷ 0 ∷ 0 ∷ 4 ∷ 0 ∷ 0 ∷ 0 ∷ 1 ∷ 0 ∷ 0 ∷ 0 ∷ 1 ∷ 0 ∷ 0 ∷ 0 ∷ 3 ∷ 0 ∷ 0 ∷ 0 ∷ 8 ∷ 0 ∷ 0 ∷ 0 ∷ 1 ∷ 0 ∷ 0 ∷ 0 ∷ 0 ∷ 0 ∷ 0 ∷ 0 ∷ 0 ∷ 0 ∷ 0 ∷ 0 ∷ 0 ∷ 0 ∷ 0 ∷ 0 ∷ 1 ∷ 0 ∷ 0 ∷ 0 ∷ 0 ∷ 0 ∷ 0 ∷ 0 ∷ 0 ∷ 16 ∷ 0 ∷ 0 ∷ 0 ∷ 0 ∷ 0 ∷ 0 ∷ 0 ∷ 0 ∷ 0 ∷ 0 ∷ 4 ∷ 0 ∷ 0 ∷ 0 ∷ 0 ∷ 0 ∷ 0 ∷ 0 ∷ 0 ∷ 0 ∷ 0 ∷ 0 ∷ 0 ∷ 0 ∷ 0 ∷ 0 ∷ 0 ∷ 0 ∷ 0 ∷ 0 ∷ 0 ∷ 0 ∷ 0 ∷ 0 ∷ 0 ∷ 0 ∷ 0 ∷ 0 ∷ 2 ∷ 0 ∷ 0 ∷ 0 ∷ 1 ∷ 16 ∷ 0 ∷ 0 ∷ 0 ∷ 0 ∷ 0 ∷ 0 ∷ 2 ∷ 0 ∷ 0 ∷ 0 ∷ 4 ∷ 0 ∷ 0 ∷ 0 ∷ 1 ∷ 0 ∷ 0 ∷ 0 ∷ 4 ∷ 0 ∷ 0 ∷ 0 ∷ 1 ∷ 0 ∷ 0 ∷ 0 ∷ 1 ∷ 0 ∷ 0 ∷ 0 ∷ 0 ∷ 16 ∷ 0 ∷ 0 ∷ 0 ∷ 0 ∷ 0 ∷ 0 ∷ 1 ∷ 0 ∷ 0 ∷ 0 ∷ 2 ∷ 16 ∷ 0 ∷ 0 ∷ 0 ∷ 0 ∷ 0 ∷ 0 ∷ 2 ∷ 0 ∷ 0 ∷ 0 ∷ 1 ∷ 0 ∷ 0 ∷ 0 ∷ 6 ∷ 0 ∷ 0 ∷ 0 ∷ 1 ∷ 0 ∷ 0 ∷ 0 ∷ 6 ∷ 0 ∷ 0 ∷ 0 ∷ 0 ∷ 0 ∷ 0 ∷ 0 ∷ 0 ∷ 0 ∷ 0 ∷ 0 ∷ 0 ∷ 0 ∷ 0 ∷ 0 ∷ 0 ∷ 0 ∷ 0 ∷ 0 ∷ 3 ∷ 16 ∷ 0 ∷ 0 ∷ 0 ∷ 0 ∷ 0 ∷ 0 ∷ 0 ∷ 0 ∷ 0 ∷ 0 ∷ 1 ∷ 0 ∷ 0 ∷ 0 ∷ 4 ∷ 0 ∷ 0 ∷ 0 ∷ 2 ∷ 0 ∷ 0 ∷ 0 ∷ 9 ∷ 0 ∷ 0 ∷ 0 ∷ 0 ∷ 0 ∷ 0 ∷ 0 ∷ 0 ∷ 0 ∷ 0 ∷ 0 ∷ 0 ∷ 0 ∷ 0 ∷ 0 ∷ 0 ∷ 0 ∷ 0 ∷ 0 ∷ 4 ∷ 16 ∷ 0 ∷ 0 ∷ 0 ∷ 0 ∷ 0 ∷ 0 ∷ 0 ∷ 0 ∷ 0 ∷ 0 ∷ 1 ∷ 0 ∷ 0 ∷ 0 ∷ 0 ∷ 0 ∷ 0 ∷ 0 ∷ 1 ∷ 0 ∷ 0 ∷ 0 ∷ 10 ∷ 0 ∷ 0 ∷ 0 ∷ 0 ∷ 0 ∷ 0 ∷ 0 ∷ 0 ∷ 0 ∷ 0 ∷ 0 ∷ 0 ∷ 0 ∷ 0 ∷ 0 ∷ 0 ∷ 0 ∷ 0 ∷ 0 ∷ 2 ∷ 0 ∷ 0 ∷ 0 ∷ 0 ∷ 0 ∷ 0 ∷ 0 ∷ 3 ∷ 0 ∷ 0 ∷ 0 ∷ 0 ∷ 0 ∷ 0 ∷ 0 ∷ 4 ∷ 0 ∷ 0 ∷ 0 ∷ 0 ∷ 0 ∷ 0 ∷ 0 ∷ 1 ∷ 0 ∷ 0 ∷ 0 ∷ 0 ∷ 32 ∷ 0 ∷ 0 ∷ 0 ∷ 0 ∷ 0 ∷ 0 ∷ 0 ∷ 0 ∷ 0 ∷ 0 ∷ 0 ∷ 0 ∷ 0 ∷ 0 ∷ 1 ∷ 0 ∷ 0 ∷ 0 ∷ 255 ∷ 255 ∷ 255 ∷ 255 ∷ 255 ∷ 255 ∷ 255 ∷ 255 ∷ 0 ∷ 0 ∷ 0 ∷ 0 ∷ 0 ∷ 0 ∷ 0 ∷ 0 ∷ 3 ∷ 0 ∷ 0 ∷ 0 ∷ 0 ∷ 0 ∷ 0 ∷ 0 ∷ 4 ∷ 0 ∷ 0 ∷ 0 ∷ 0 ∷ 0 ∷ 0 ∷ 0 ∷ 1 ∷ 0 ∷ 0 ∷ 0 ∷ 2 ∷ 0 ∷ 0 ∷ 0 ∷ 4 ∷ 0 ∷ 0 ∷ 0 ∷ 1 ∷ 0 ∷ 0 ∷ 0 ∷ 0 ∷ 0 ∷ 0 ∷ 0 ∷ 0 ∷ 0 ∷ 0 ∷ 0 ∷ 2 ∷ 0 ∷ 0 ∷ 0 ∷ 7 ∷ 0 ∷ 0 ∷ 0 ∷ 77 ∷ 0 ∷ 0 ∷ 0 ∷ 0 ∷ 0 ∷ 0 ∷ 0 ∷ 0 ∷ 0 ∷ 0 ∷ 0 ∷ 1 ∷ 0 ∷ 0 ∷ 0 ∷ 255 ∷ 255 ∷ 255 ∷ 255 ∷ 255 ∷ 255 ∷ 255 ∷ 127 ∷ 0 ∷ 0 ∷ 0 ∷ 0 ∷ 0 ∷ 0 ∷ 0 ∷ 0 ∷ 5 ∷ 0 ∷ 0 ∷ 0 ∷ 2 ∷ 0 ∷ 0 ∷ 0 ∷ 5 ∷ 0 ∷ 0 ∷ 0 ∷ 0 ∷ 0 ∷ 0 ∷ 0 ∷ 0 ∷ 0 ∷ 0 ∷ 0 ∷ 2 ∷ 0 ∷ 0 ∷ 0 ∷ 4 ∷ 0 ∷ 0 ∷ 0 ∷ 0 ∷ 0 ∷ 0 ∷ 0 ∷ 0 ∷ 0 ∷ 0 ∷ 0 ∷ 0 ∷ 0 ∷ 0 ∷ 0 ∷ 1 ∷ 0 ∷ 0 ∷ 0 ∷ 39 ∷ 0 ∷ 0 ∷ 0 ∷ 0 ∷ 0 ∷ 0 ∷ 0 ∷ 0 ∷ 0 ∷ 0 ∷ 0 ∷ 0 ∷ 0 ∷ 0 ∷ 0 ∷ 3 ∷ 0 ∷ 0 ∷ 0 ∷ 5 ∷ 0 ∷ 0 ∷ 0 ∷ 1 ∷ 0 ∷ 0 ∷ 0 ∷ 7 ∷ 0 ∷ 0 ∷ 0 ∷ 8 ∷ 0 ∷ 0 ∷ 0 ∷ 2 ∷ 0 ∷ 0 ∷ 0 ∷ 4 ∷ 0 ∷ 0 ∷ 0 ∷ 2 ∷ 0 ∷ 0 ∷ 0 ∷ 0 ∷ 0 ∷ 0 ∷ 0 ∷ 0 ∷ 0 ∷ 0 ∷ 0 ∷ 0 ∷ 1 ∷ 0 ∷ 0 ∷ 0 ∷ 0 ∷ 0 ∷ 0 ∷ 0 ∷ 0 ∷ 0 ∷ 0 ∷ 1 ∷ 0 ∷ 0 ∷ 0 ∷ 0 ∷ 16 ∷ 0 ∷ 0 ∷ 0 ∷ 0 ∷ 0 ∷ 0 ∷ 6 ∷ 0 ∷ 0 ∷ 0 ∷ 2 ∷ 0 ∷ 0 ∷ 0 ∷ 0 ∷ 16 ∷ 64 ∷ 0 ∷ 0 ∷ 0 ∷ 0 ∷ 0 ∷ 0 ∷ 0 ∷ 0 ∷ 0 ∷ 1 ∷ 0 ∷ 0 ∷ 0 ∷ 8 ∷ 16 ∷ 64 ∷ 0 ∷ 0 ∷ 0 ∷ 0 ∷ 0 ∷ 8 ∷ 0 ∷ 0 ∷ 0 ∷ 10 ∷ 0 ∷ 0 ∷ 0 ∷ 32 ∷ 61 ∷ 61 ∷ 32 ∷ 115 ∷ 43 ∷ 105 ∷ 102 ∷ 115 ∷ 117 ∷ 98 ∷ 95 ∷ 52 ∷ 48 ∷ 49 ∷ 48 ∷ 48 ∷ 48 ∷ [];
+-- file 300
+abbrev pair300 : Pair
+pair300 = record {
+  file = 1 ∷ 0 ∷ 0 ∷ 0 ∷ 32 ∷ 0 ∷ 0 ∷ 0 ∷ 0 ∷ 0 ∷ 0 ∷ 0 ∷ 0 ∷ 0 ∷ 0 ∷ 0 ∷ 88 ∷ 0 ∷ 0 ∷ 0 ∷ 0 ∷ 0 ∷ 0 ∷ 0 ∷ 88 ∷ 0 ∷ 0 ∷ 0 ∷ 1 ∷ 0 ∷ 0 ∷ 0 ∷ 128 ∷ 0 ∷ 0 ∷ 0 ∷ 0 ∷ 0 ∷ 0 ∷ 0 ∷ 128 ∷ 0 ∷ 0 ∷ 0 ∷ 0 ∷ 0 ∷ 0 ∷ 0 ∷ 128 ∷ 0 ∷ 0 ∷ 0 ∷ 4 ∷ 0 ∷ 0 ∷ 0 ∷ 48 ∷ 1 ∷ 0 ∷ 0 ∷ 0 ∷ 0 ∷ 0 ∷ 0 ∷ 48 ∷ 1 ∷ 0 ∷ 0 ∷ 2 ∷ 0 ∷ 0 ∷ 0 ∷ 88 ∷ 1 ∷ 0 ∷ 0 ∷ 0 ∷ 0 ∷ 0 ∷ 0 ∷ 88 ∷ 1 ∷ 0 ∷ 0 ∷ 2 ∷ 0 ∷ 0 ∷ 0 ∷ 0 ∷ 16 ∷ 0 ∷ 0 ∷ 0 ∷ 0 ∷ 0 ∷ 0 ∷ 0 ∷ 0 ∷ 0 ∷ 0 ∷ 0 ∷ 0 ∷ 0 ∷ 0 ∷ 0 ∷ 0 ∷ 0 ∷ 0 ∷ 0 ∷ 0 ∷ 0 ∷ 0 ∷ 0 ∷ 0 ∷ 0 ∷ 0 ∷ 0 ∷ 0 ∷ 0 ∷ 0 ∷ 0 ∷ 0 ∷ 0 ∷ 0 ∷ 4 ∷ 0 ∷ 0 ∷ 0 ∷ 0 ∷ 16 ∷ 0 ∷ 0 ∷ 0 ∷ 0 ∷ 0 ∷ 0 ∷ 4 ∷ 0 ∷ 0 ∷ 0 ∷ 2 ∷ 0 ∷ 0 ∷ 0 ∷ 4 ∷ 0 ∷ 0 ∷ 0 ∷ 0 ∷ 0 ∷ 0 ∷ 0 ∷ 1 ∷ 0 ∷ 0 ∷ 0 ∷ 0 ∷ 0 ∷ 0 ∷ 0 ∷ 0 ∷ 0 ∷ 0 ∷ 0 ∷ 0 ∷ 0 ∷ 0 ∷ 0 ∷ 0 ∷ 0 ∷ 0 ∷ 0 ∷ 4 ∷ 16 ∷ 0 ∷ 0 ∷ 0 ∷ 0 ∷ 0 ∷ 0 ∷ 4 ∷ 0 ∷ 0 ∷ 0 ∷ 3 ∷ 0 ∷ 0 ∷ 0 ∷ 0 ∷ 0 ∷ 0 ∷ 0 ∷ 1 ∷ 0 ∷ 0 ∷ 0 ∷ 0 ∷ 0 ∷ 0 ∷ 0 ∷ 0 ∷ 0 ∷ 0 ∷ 0 ∷ 0 ∷ 0 ∷ 0 ∷ 0 ∷ 0 ∷ 0 ∷ 0 ∷ 0 ∷ 0 ∷ 0 ∷ 0 ∷ 0 ∷ 8 ∷ 16 ∷ 0 ∷ 0 ∷ 0 ∷ 0 ∷ 0 ∷ 0 ∷ 0 ∷ 0 ∷ 0 ∷ 0 ∷ 3 ∷ 0 ∷ 0 ∷ 0 ∷ 1 ∷ 0 ∷ 0 ∷ 0 ∷ 1 ∷ 0 ∷ 0 ∷ 0 ∷ 0 ∷ 0 ∷ 0 ∷ 0 ∷ 0 ∷ 0 ∷ 0 ∷ 0 ∷ 0 ∷ 0 ∷ 0 ∷ 0 ∷ 0 ∷ 0 ∷ 0 ∷ 0 ∷ 0 ∷ 0 ∷ 0 ∷ 0 ∷ 12 ∷ 16 ∷ 0 ∷ 0 ∷ 0 ∷ 0 ∷ 0 ∷ 0 ∷ 0 ∷ 0 ∷ 0 ∷ 0 ∷ 6 ∷ 0 ∷ 0 ∷ 0 ∷ 0 ∷ 0 ∷ 0 ∷ 0 ∷ 0 ∷ 0 ∷ 0 ∷ 0 ∷ 0 ∷ 0 ∷ 0 ∷ 0 ∷ 0 ∷ 0 ∷ 0 ∷ 0 ∷ 0 ∷ 0 ∷ 0 ∷ 0 ∷ 0 ∷ 0 ∷ 0 ∷ 0 ∷ 0 ∷ 0 ∷ 0 ∷ 0 ∷ 2 ∷ 0 ∷ 0 ∷ 0 ∷ 4 ∷ 0 ∷ 0 ∷ 0 ∷ 0 ∷ 0 ∷ 0 ∷ 0 ∷ 0 ∷ 0 ∷ 0 ∷ 0 ∷ 0 ∷ 0 ∷ 0 ∷ 0 ∷ 1 ∷ 0 ∷ 0 ∷ 0 ∷ 5 ∷ 0 ∷ 0 ∷ 0 ∷ 0 ∷ 0 ∷ 0 ∷ 0 ∷ 0 ∷ 0 ∷ 0 ∷ 0 ∷ 0 ∷ 0 ∷ 0 ∷ 0 ∷ 102 ∷ 103 ∷ [];
   answer = record {
     number = 0;
-    lines = 6;
-    tokens = 26;
-    bytes = 102;
+    lines = 3;
+    tokens = 8;
+    bytes = 16;
     ifs = 0;
     loops = 0;
-    tests = 1;
-    lineBuffer = 1 ∷ 4096 ∷ 0 ∷ 2 ∷ 0 ∷ 1 ∷ 4096 ∷ 1 ∷ 6 ∷ 0 ∷ 1 ∷ 4097 ∷ 1 ∷ 14 ∷ 0 ∷ 1 ∷ 4097 ∷ 1 ∷ 18 ∷ 0 ∷ 1 ∷ 4098 ∷ 1 ∷ 22 ∷ 0 ∷ 1 ∷ 4100 ∷ 1 ∷ 26 ∷ 0 ∷ 0 ∷ 0 ∷ [];
-    tokenBuffer = 68 ∷ 78 ∷ 107 ∷ 112 ∷ 180 ∷ 190 ∷ 203 ∷ 222 ∷ 233 ∷ 286 ∷ 315 ∷ 320 ∷ 388 ∷ 398 ∷ 427 ∷ 432 ∷ 492 ∷ 502 ∷ 513 ∷ 542 ∷ 708 ∷ 718 ∷ 729 ∷ 766 ∷ 809 ∷ 822 ∷ 0 ∷ 0 ∷ [];
-    textBuffer = txt "loc_1000:goto loc_1000;if (v3 < 0) goto loc_1000;goto *0x2000;v3 = word_7FFFFFFFFFFFFFFF;v4 = &arg_27;" ++ (0 ∷ 0 ∷ []);
+    tests = 0;
+    lineBuffer = 1 ∷ 4100 ∷ 1 ∷ 2 ∷ 0 ∷ 1 ∷ 4104 ∷ 1 ∷ 6 ∷ 0 ∷ 1 ∷ 4108 ∷ 1 ∷ 8 ∷ 0 ∷ 0 ∷ 0 ∷ [];
+    tokenBuffer = 12 ∷ 38 ∷ 44 ∷ 54 ∷ 58 ∷ 78 ∷ 123 ∷ 134 ∷ 0 ∷ 0 ∷ [];
+    textBuffer = txt "f();g(5);return;" ++ (0 ∷ 0 ∷ []);
   };
 }
 
@@ -340,8 +340,8 @@ agrees p =
     && same (r .lineBuffer) (w .lineBuffer) && same (r .tokenBuffer) (w .tokenBuffer) && same (r .textBuffer) (w .textBuffer)
 
 pub cases : List Pair
-cases = pair0 ∷ pair2 ∷ pair3 ∷ pair4 ∷ pair6 ∷ pair8 ∷ pair12 ∷ pair13 ∷ pair56 ∷ pair61 ∷ pair73 ∷ pair85 ∷ pair100 ∷ pair116 ∷ pair159 ∷ pair233 ∷ []
+cases = pair0 ∷ pair2 ∷ pair3 ∷ pair4 ∷ pair6 ∷ pair8 ∷ pair12 ∷ pair13 ∷ pair56 ∷ pair61 ∷ pair73 ∷ pair85 ∷ pair100 ∷ pair116 ∷ pair159 ∷ pair300 ∷ []
 
 pub computed : all agrees cases ≡ true
-unfolding agrees cases all any only count gather total range allBelow sumBelow among distinct orElse given has four word long part same isEmpty begins contains replace shed trimStart trimEnd cutEnd edition1 contents offset size text place textAt exprItems valueItems items firstPhi firstStmt firstInput firstItem refused2 tooMany refused3 bytesOf adjoin owned blockShaped phiShaped fieldsShaped itemsShaped stmtShaped exprShaped shaped refused4 inText printable nameSound stmtText exprText children itemExprs roots mentions childrenLower rootsInside ownedOnce refused5 eqv within before lesser greater bits argRegs starts rising itemValues phiValue assigned callReturns strict loose definedOnce useRegister registers targeted refused6 eqe exprUses valueOr optionUses uses defs stmtsOf phisOf opText tree trees allTrees kindAt marked stmtAt phiAt blockAt nameAt read look forth back plus minus signed withConst sum stackOff phiDef stmtDef blockDefs defined agreed rule learn round rounds closure offsets known isConst outside refused7 find pairs relabel union unions alone classes live reads phiReads readsOf hasLoad clobbers readLater readOnce placeKind placed inline inPlace NAMES64 NAMES32 regName calleeSaved digit digits decimal hex HEX magnitude num slot label outward hexValue push readDigits readSome readHex byConvention entryReads upToLast params nameIn paramNames meet nameKey nameKeys phiKeys blockKeys naming joins join merge line textOf nameFor sizePrefix nameOr globalName order nextOf isNext optionList targetOf unlessNext jumpsFrom outsideName targetName openedAt variable useOr addressOr nested pointer through slotOr globalOf globalOr operator expr e openNext openAll codeOf shown signText sideTokens unsignedTokens shownTokens settingOf lastSetter setterOf comparison conditionOf condition half wrapped misfits afterCmp afterTest afterFlags after intel relates sideValue reading holds opposite flipped gotoTokens isStackLoad isSaved restores assign isCall takes saves silent store isRead resultTokens nameForHex direct slotName indirect isIndirect commaList pushed countSet callArgs call fallLine branchIf tailCall leave firstOf branchTo branch returnTokens return nameList asm other lowerKind pendAfter setAfter lowerStmts leaves lastLeaves closing labelLine lowerBlock lowerBlocks isSave readRoots lowering lower isTok firstIs isLabel firstText firstSymbol gotoTarget sortJump sortRest sortAt sortOf beforeGoto tail trimFirst cutLast condOf flips compares flipIn comparisons flipAt flippable negate openTokens closeTokens doTokens whileTokens labelName aimName condName is named aims backs aimed aimedAt reached outer stops deep unless consCut scanAt scan noLine ifCut ifAt firstFormed ifTry ifStep backAt lastBack doCut doAt doTry doStep conds passN structureIfs structureDoWhile kept dropUnusedLabels tokenCount byteCount refused8 afterLoops afterIfs structure fitting printed checked list tests hasAddress addressOf lineWords tokenWords tokensOf padded refusal success resultOf fits result
+unfolding agrees cases all any only count gather total range allBelow sumBelow among distinct orElse given has four word long part same isEmpty begins contains replace shed trimStart trimEnd cutEnd edition1 contents offset size text place textAt exprItems valueItems items firstPhi firstStmt firstInput firstItem refused2 tooMany refused3 bytesOf adjoin owned blockShaped phiShaped fieldsShaped itemsShaped stmtShaped exprShaped shaped refused4 inText printable nameSound stmtText exprText children itemExprs roots mentions childrenLower rootsInside ownedOnce refused5 eqv within before lesser greater bits argRegs starts rising itemValues phiValue assigned callReturns strict loose definedOnce useRegister registers targeted refused6 eqe exprUses valueOr optionUses uses defs stmtsOf phisOf opText tree trees allTrees kindAt marked stmtAt phiAt blockAt nameAt read look forth back plus minus signed withConst sum stackOff phiDef stmtDef blockDefs defined agreed rule learn round rounds closure offsets known isConst outside refused7 find pairs relabel union unions alone classes live reads phiReads readsOf hasLoad clobbers readLater readOnce placeKind placed inline inPlace NAMES64 NAMES32 regName calleeSaved digit digits decimal hex HEX magnitude num slot label outward hexValue push readDigits readSome readHex byConvention entryReads upToLast params nameIn paramNames meet nameKey nameKeys phiKeys blockKeys naming joins join merge line textOf nameFor sizePrefix nameOr globalName order nextOf isNext optionList targetOf unlessNext jumpsFrom outsideName targetName openedAt variable useOr addressOr nested pointer through slotOr globalOf globalOr operator expr e openNext openAll codeOf shown signText sideTokens unsignedTokens shownTokens settingOf lastSetter setterOf comparison conditionOf condition half wrapped misfits afterCmp afterTest afterFlags after intel relates sideValue reading holds opposite flipped gotoTokens isStackLoad isSaved restores assign isCall takes saves silent store isRead resultTokens nameForHex direct slotName indirect isIndirect commaList pushed countSet callArgs call fallLine branchIf tailCall leave firstOf branchTo branch returnTokens return nameList asm other waiting lowerKind pendAfter setAfter lowerStmts leaves lastLeaves closing labelLine lowerBlock lowerBlocks isSave readRoots lowering lower isTok firstIs isLabel firstText firstSymbol gotoTarget sortJump sortRest sortAt sortOf beforeGoto tail trimFirst cutLast condOf flips compares flipIn comparisons flipAt flippable negate openTokens closeTokens doTokens whileTokens labelName aimName condName is named aims backs aimed aimedAt reached outer stops deep unless consCut scanAt scan noLine ifCut ifAt firstFormed ifTry ifStep backAt lastBack doCut doAt doTry doStep conds passN structureIfs structureDoWhile kept dropUnusedLabels tokenCount byteCount refused8 afterLoops afterIfs structure fitting printed checked list tests hasAddress addressOf lineWords tokenWords tokensOf padded refusal success resultOf fits result
 computed = refl

@@ -19,7 +19,7 @@ use Rattle.definition.specs.Numbers.{label, decimal}
 use Rattle.definition.specs.Lookup.{isNext, targetName, outsideName, nameFor}
 use Rattle.definition.specs.Tokens.{Token, Line, keyword, symbol, punct, merge, line}
 use Rattle.definition.specs.Render.{pointer, through, slotOr, globalOr, e}
-use Rattle.definition.specs.Lower.{Lowering, Here, gotoTokens, restores, assign, silent, store, isRead, resultTokens, direct, slotName, indirect, isIndirect, commaList, callArgs, countSet, call, fallLine, branchIf, tailCall, leave, firstOf, branchTo, branch, returnTokens, return, nameList, asm, other, lowerKind}
+use Rattle.definition.specs.Lower.{Lowering, Here, gotoTokens, restores, assign, silent, store, isRead, resultTokens, direct, slotName, indirect, isIndirect, commaList, callArgs, countSet, call, fallLine, branchIf, tailCall, leave, firstOf, branchTo, branch, returnTokens, return, nameList, asm, other, waiting, lowerKind}
 use Rattle.definition.specs.Blocks.{pendAfter, setAfter, lowerStmts, closing}
 use Rattle.definition.specs.Sorts.{isTok, firstSymbol, sortOf}
 use Rattle.definition.specs.Sorts.Sort.{jumpTo, plain}
@@ -198,7 +198,7 @@ module _ {P : List ℕ → Type 0} (L : Lowering) (sound : Sound P (L .gen)) whe
         unfolding lowerKind
         kind-lines pend set s ss (Assign v x) d = assign-lines s v x
         kind-lines pend set s ss (Store n a x) d = by-cond (Each (Stated P)) (s .dead) (λ h. end) (λ h. store-lines s n a x ss)
-        kind-lines pend set s ss (Call t xs r c) d = by-cond (Each (Stated P)) (s .dead) (λ h. end) (λ h. call-lines pend set s t xs r)
+        kind-lines pend set s ss (Call t xs r c) d = by-cond (Each (Stated P)) (s .dead) (λ h. end) (λ h. call-lines (waiting s pend) set s t xs r)
         kind-lines pend set s ss (Branch c t us) d = by-cond (Each (Stated P)) (s .dead) (λ h. end) (λ h. branch-lines set s c t us (d h))
         kind-lines pend set s ss (Flags t a b) d = end
         kind-lines pend set s ss (Return x) d = by-cond (Each (Stated P)) (s .dead) (λ h. end) (λ h. return-lines s x)

@@ -219,11 +219,15 @@ asm (n ∷ m ∷ ns) t = keyword (txt "__asm") ∷ textual (txt " { " ++ t ++ tx
 unfoldable pub other : Lowering → Stmt → List ℕ → List Value → List Line
 other L s t ds = plainLine s (asm (gather (nameList L) ds) t)
 
+-- the pushes that a call gets: none where it is itself marked as a push, they go to the next one
+unfoldable pub waiting : Stmt → List Stmt → List Stmt
+waiting s pend = cond (s .push) [] pend
+
 -- one statement: pend the pushes waiting for a call, set the argument registers set since the last, ss the statements behind it
 unfoldable pub lowerKind : Lowering → Here → List Stmt → List ℕ → Stmt → List Stmt → Kind → List Line
 lowerKind L H pend set s ss (Assign v x) = assign L s v x
 lowerKind L H pend set s ss (Store n a x) = cond (s .dead) [] (store L s n a x ss)
-lowerKind L H pend set s ss (Call t xs r c) = cond (s .dead) [] (call L pend set s t xs r)
+lowerKind L H pend set s ss (Call t xs r c) = cond (s .dead) [] (call L (waiting s pend) set s t xs r)
 lowerKind L H pend set s ss (Branch c t us) = cond (s .dead) [] (branch L H set s c t us)
 lowerKind L H pend set s ss (Flags t a b) = []
 lowerKind L H pend set s ss (Return x) = cond (s .dead) [] (return L s x)
