@@ -1,8 +1,10 @@
-//! Links the archive that `rt staticlib file` writes.
+//! Links the archives that `rt staticlib file` and `rt staticlib probe` write.
 
 fn main() {
-    let archive = std::path::Path::new(env!("CARGO_MANIFEST_DIR")).join("../target/staticlib");
-    println!("cargo:rustc-link-search=native={}", archive.display());
-    println!("cargo:rustc-link-lib=static=file");
-    println!("cargo:rerun-if-changed={}", archive.join("libfile.a").display());
+    let archives = std::path::Path::new(env!("CARGO_MANIFEST_DIR")).join("../target/staticlib");
+    println!("cargo:rustc-link-search=native={}", archives.display());
+    for name in ["file", "probe"] {
+        println!("cargo:rustc-link-lib=static={name}");
+        println!("cargo:rerun-if-changed={}", archives.join(format!("lib{name}.a")).display());
+    }
 }

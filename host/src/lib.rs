@@ -1,5 +1,7 @@
 //! The proved printer for Rust programs. So far its reader: checks 2 to 6 of a function file.
 
+pub mod pieces;
+
 use oracle::refusal::Refusal;
 
 /// The scratch of the reader: a number for each expression that a file may have.

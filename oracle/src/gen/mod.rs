@@ -9,7 +9,7 @@ mod limits;
 mod odd;
 mod order;
 mod random;
-mod rng;
+pub mod rng;
 mod ssa;
 mod values;
 

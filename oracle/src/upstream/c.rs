@@ -70,6 +70,23 @@ fn num(v: i64) -> Token {
     tok(t, TokenKind::Number)
 }
 
+/// The writers by themselves, for comparisons: a constant, a slot, a global.
+pub mod writers {
+    use super::{COptions, Gen};
+
+    pub fn num(v: i64) -> String {
+        super::num(v).t
+    }
+
+    pub fn slot(off: i64) -> String {
+        Gen::slot(off)
+    }
+
+    pub fn global_name(o: &COptions, addr: i64, size: u8) -> Option<String> {
+        super::global_name(o, addr, size)
+    }
+}
+
 fn line(indent: u8, address: Option<u64>, tokens: Vec<Token>) -> PseudoLine {
     PseudoLine { address, indent, tokens: crate::upstream::pseudo_opt::merge(tokens) }
 }

@@ -15,7 +15,7 @@
 //! are never carried across a call wrongly. Memory is not modelled: loads are opaque values.
 
 #[path = "c.rs"]
-mod c;
+pub mod c;
 pub use c::{COptions, Dsu, Gen};
 
 /// A register family (`rax` … `r15`), numbered 0..16.

@@ -1,0 +1,28 @@
+use borrow.Author.Needs.{needs}
+use Rattle.probe.proofs.Laws.{counted}
+use Rattle.probe.proofs.sorkhelaw_register.Statement.{statement}
+use Rattle.probe.proofs.sorkhelaw_register.Tie as tie
+use Rattle.probe.proofs.sorkhelaw_register.Reads as reads
+use Rattle.probe.proofs.sorkhelaw_register.Lts as lts
+use Rattle.probe.proofs.count_of.Reads as count-of-reads
+use Rattle.text.proofs.registers.reg_name.Reads as reg-name-reads
+
+-- src/lib.rt:66:14
+reg-name-requires : tie.Need-reg-name-requires
+reg-name-requires c κs = search needs
+
+-- src/lib.rt:66:5
+count-of-requires : tie.Need-count-of-requires
+count-of-requires c κs = search needs
+
+-- src/lib.rt:62:1
+same-length : tie.Need-same-length
+same-length c = search needs
+
+-- src/lib.rt:62:1
+returns : tie.Need-returns
+returns c = counted (c .before .before .before .reg-name .ensures) (c .count-of .ensures)
+
+pub sorkhelaw-register-spec : {M : Type 1} → statement M
+sorkhelaw-register-spec =
+    tie.close (tie.spec reg-name-requires count-of-requires same-length returns)
