@@ -1,0 +1,63 @@
+use native.Mathlib.Omega.{arith}
+use borrow.Author.Needs.{needs}
+use mathlib.Core.Path.{_≡_, refl}
+use Prim.Native.Nat.{ℕ, _≤_, _<_, _-_}
+use lib.ListN.{length, length-set}
+use Rattle.values.specs.Tables.{at}
+use Rattle.classes.proofs.Labels.{fill-on}
+use Rattle.classes.proofs.Turns.{own-end}
+use Rattle.classes.proofs.roots.reset.Statement.{statement}
+use Rattle.classes.proofs.roots.reset.Tie as tie
+
+abbrev Inv-loop : tie.InvT-loop
+Inv-loop roots₀ i₀ roots i = ((j : ℕ) → j < i → at roots j ≡ j) × (i ≤ length roots) × (length roots ≡ length roots₀)
+
+abbrev μ-loop : tie.MeasureT-loop
+μ-loop roots₀ i₀ roots i = length roots - i
+
+loop-holds : tie.Need-loop-holds Inv-loop μ-loop
+loop-holds c = ((λ j h. absurd (omega arith)), omega arith, refl)
+
+cast-roots : tie.Need-cast-roots Inv-loop μ-loop
+cast-roots c = search needs
+
+mul-roots : tie.Need-mul-roots Inv-loop μ-loop
+mul-roots c = search needs
+
+slice-write-roots : tie.Need-slice-write-roots Inv-loop μ-loop
+slice-write-roots c = search needs
+
+add-i : tie.Need-add-i Inv-loop μ-loop
+add-i c = search needs
+
+loop-less : tie.Need-loop-less Inv-loop μ-loop
+loop-less c = omega (arith, length-set (c .before .loop .roots) (c .before .loop .i) (c .before .loop .i))
+
+loop-again : tie.Need-loop-again Inv-loop μ-loop
+loop-again c = (
+  fill-on (λ j. j) _ _ _ (c .loop-test .taken) refl (c .before .loop .inv .0),
+  omega (arith, length-set (c .before .loop .roots) (c .before .loop .i) (c .before .loop .i)),
+  simp length-set (c .before .loop .inv .2),
+)
+
+same-length : tie.Need-same-length Inv-loop μ-loop
+same-length c = c .before .loop .inv .2
+
+returns : tie.Need-returns Inv-loop μ-loop
+returns c = own-end _ _ _ (c .before .loop .inv .2) (omega arith) (c .before .loop .inv .0)
+
+pub reset-spec : {M : Type 1} → statement M
+reset-spec =
+    tie.close
+    (tie.spec
+    Inv-loop
+    μ-loop
+    loop-holds
+    cast-roots
+    mul-roots
+    slice-write-roots
+    add-i
+    loop-less
+    loop-again
+    same-length
+    returns)

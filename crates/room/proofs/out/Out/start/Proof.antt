@@ -1,0 +1,14 @@
+use Rattle.room.specs.Blank.{fresh}
+use mathlib.Core.Path.{refl}
+use Rattle.room.proofs.out.Out.start.Statement.{statement}
+use Rattle.room.proofs.out.Out.start.Tie as tie
+use Rattle.room.proofs.out.Out.start.Reads as reads
+use Rattle.room.proofs.out.Out.start.Lts as lts
+
+-- src/out.rt:17:5
+returns : tie.Need-returns
+unfolding fresh
+returns c = refl
+
+pub start-spec : {M : Type 1} → statement M
+start-spec = tie.close (tie.spec returns)

@@ -1,0 +1,16 @@
+use Rattle.room.proofs.Placing.{joins-punct, joins-else}
+use Rattle.room.proofs.place.joins.Statement.{statement}
+use Rattle.room.proofs.place.joins.Tie as tie
+use Rattle.room.proofs.place.joins.Reads as reads
+use Rattle.room.proofs.place.joins.Lts as lts
+
+-- src/place.rt:20:9
+returns : tie.Need-returns
+returns c = joins-punct _ (c .if1 .taken)
+
+-- src/place.rt:16:1
+returns-2 : tie.Need-returns-2
+returns-2 c = joins-else _ (c .if1 .left)
+
+pub joins-spec : {M : Type 1} → statement M
+joins-spec = tie.close (tie.spec returns returns-2)

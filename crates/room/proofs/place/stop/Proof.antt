@@ -1,0 +1,14 @@
+use Rattle.room.specs.Room.{stopped}
+use mathlib.Core.Path.{refl}
+use Rattle.room.proofs.place.stop.Statement.{statement}
+use Rattle.room.proofs.place.stop.Tie as tie
+use Rattle.room.proofs.place.stop.Reads as reads
+use Rattle.room.proofs.place.stop.Lts as lts
+
+-- src/place.rt:84:1
+returns : tie.Need-returns
+unfolding stopped
+returns c = refl
+
+pub stop-spec : {M : Type 1} → statement M
+stop-spec = tie.close (tie.spec returns)

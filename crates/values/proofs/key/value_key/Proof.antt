@@ -1,0 +1,19 @@
+use Rattle.values.proofs.Reading.{key-is}
+use borrow.Author.Needs.{needs}
+use Rattle.values.proofs.key.value_key.Statement.{statement}
+use Rattle.values.proofs.key.value_key.Tie as tie
+
+mul-result : tie.Need-mul-result
+mul-result c = search needs
+
+add-result : tie.Need-add-result
+add-result c = search needs
+
+add-result-2 : tie.Need-add-result-2
+add-result-2 c = search needs
+
+returns : tie.Need-returns
+returns c = key-is _ _
+
+pub value-key-spec : {M : Type 1} → statement M
+value-key-spec = tie.close (tie.spec mul-result add-result add-result-2 returns)

@@ -1,0 +1,4 @@
+pub mod Keys
+pub mod Tables
+pub mod Laid
+pub mod Chains
