@@ -111,7 +111,7 @@ module _ (f : List ℕ) (i k : ℕ) (kind : k ≡ stmtKind f i) where
     unfolding rootAt
     item-root a b c d h = rw (← kind, ne-eqb k 1 a, ne-eqb k 2 b, ne-eqb k 5 c, ne-eqb k 6 d) h
 
-roots-are : (f : List ℕ) (i : ℕ) → roots f i ≡ map (rootAt f i (firstItem f i)) (range 0 (rootCount f i))
+pub roots-are : (f : List ℕ) (i : ℕ) → roots f i ≡ map (rootAt f i (firstItem f i)) (range 0 (rootCount f i))
 unfolding roots itemExprs rootAt rootCount range
 roots-are f i =
     let k = stmtKind f i in

@@ -1,0 +1,11 @@
+mod Returns
+mod Searching
+pub mod AtStatement
+mod OneReader
+mod Telling
+mod Adding
+pub mod Forgetting
+pub mod Rising
+pub mod Standing
+pub mod Apart
+pub mod Unique

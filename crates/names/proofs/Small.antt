@@ -1,0 +1,85 @@
+-- The places of a file and the counts of its owners are sums of words, so that the code's sums fit; what is owned comes out.
+use mathlib.Core.Path.{_≡_, refl, sym}
+use mathlib.Core.Bool.{true, _&&_}
+use mathlib.Core.List.{List}
+use Prim.Native.Nat.{ℕ, _+_, _≤_, _<_}
+use native.Mathlib.Omega.{arith}
+use lib.Dec.{eqb}
+use lib.ListN.{getD}
+use mir.Syntax.{w8}
+use mir.Val.{Fits}
+use borrow.Author.Tests.{eqb-true}
+use Rattle.definition.specs.Edition.{args, blocks, phis, inputs, statements, lists}
+use Rattle.definition.specs.Lists.{sumBelow}
+use Rattle.definition.specs.Contents.{size}
+use Rattle.definition.specs.Owners.{blockPhis, blockStmts, phiInputs, firstPhi, firstStmt, firstInput, firstItem}
+use Rattle.definition.specs.Shape.{owned}
+use Rattle.records.proofs.Also.{and-both}
+use Rattle.records.proofs.Below.{sum-turn, sum-le}
+use Rattle.records.proofs.Items.{size-small}
+use Rattle.values.specs.Keys.{placesOf}
+use Rattle.values.proofs.Placed.{owned-inputs}
+
+module _ (f : List ℕ) (bytes : (k : ℕ) → Fits w8 (getD f k 0)) where
+  pub exprs-small : placesOf f .exprs < 21474836480
+  unfolding placesOf
+  exprs-small = omega (arith, size-small f bytes args, size-small f bytes phis, size-small f bytes inputs, size-small f bytes statements, size-small f bytes lists)
+
+  pub items-small : placesOf f .items < 21474836480
+  unfolding placesOf
+  items-small = omega (arith, size-small f bytes args, size-small f bytes phis, size-small f bytes inputs, size-small f bytes statements)
+
+  pub stmts-small : placesOf f .stmts < 21474836480
+  unfolding placesOf
+  stmts-small = omega (arith, size-small f bytes args, size-small f bytes phis, size-small f bytes inputs)
+
+  pub inputs-small : placesOf f .inputs < 21474836480
+  unfolding placesOf
+  inputs-small = omega (arith, size-small f bytes args, size-small f bytes phis)
+
+  pub phis-small : placesOf f .phis < 21474836480
+  unfolding placesOf
+  phis-small = omega (arith, size-small f bytes args)
+
+-- ---- what blocks own
+module _ (f : List ℕ) (own : owned f ≡ true) where
+  owned-parts : (firstPhi f (size f blocks) ≡ size f phis) × (firstStmt f (size f blocks) ≡ size f statements)
+  unfolding owned
+  owned-parts =
+      let a = eqb (firstPhi f (size f blocks)) (size f phis) in
+      let b = eqb (firstStmt f (size f blocks)) (size f statements) in
+      let c = eqb (firstInput f (size f phis)) (size f inputs) in
+      let d = eqb (firstItem f (size f statements)) (size f lists) in
+      let e = and-both a b (and-both (a && b) c (and-both (a && b && c) d own .0) .0) in
+      (eqb-true (firstPhi f (size f blocks)) (size f phis) (e .0), eqb-true (firstStmt f (size f blocks)) (size f statements) (e .1))
+
+  pub parts-next : (b : ℕ) → (firstPhi f (b + 1) ≡ firstPhi f b + blockPhis f b) × (firstStmt f (b + 1) ≡ firstStmt f b + blockStmts f b)
+  unfolding firstPhi firstStmt
+  parts-next b = (sym (sum-turn (blockPhis f) {i = b} refl refl), sym (sum-turn (blockStmts f) {i = b} refl refl))
+
+  pub parts-below : (b : ℕ) → b < size f blocks → (firstPhi f b + blockPhis f b ≤ size f phis) × (firstStmt f b + blockStmts f b ≤ size f statements)
+  unfolding firstPhi firstStmt
+  parts-below b h =
+      let p = sum-turn (blockPhis f) {i = b} refl refl in
+      let q = sum-turn (blockStmts f) {i = b} refl refl in
+      let o = owned-parts in
+      (omega (arith, o .0, sum-le (blockPhis f) (b + 1) (size f blocks) (omega arith)), omega (arith, o .1, sum-le (blockStmts f) (b + 1) (size f blocks) (omega arith)))
+
+  -- where the inputs of the phi behind i begin
+  pub input-next : (i : ℕ) → firstInput f (i + 1) ≡ firstInput f i + phiInputs f i
+  unfolding firstInput
+  input-next i = sym (sum-turn (phiInputs f) {i = i} refl refl)
+
+  pub inputs-fit : ((k : ℕ) → Fits w8 (getD f k 0)) → (i : ℕ) → i < size f phis → firstInput f i + phiInputs f i < 4294967296
+  unfolding firstInput
+  inputs-fit bytes i h =
+      let t = sum-turn (phiInputs f) {i = i} refl refl in
+      omega (arith, sum-le (phiInputs f) (i + 1) (size f phis) (omega arith), last, size-small f bytes inputs)
+    where
+      last : sumBelow (size f phis) (phiInputs f) ≡ size f inputs
+      last = owned-inputs f own
+
+-- no more parameters than places
+pub args-fit : (f : List ℕ) (r n : ℕ) → placesOf f .total ≤ n → n < 2147483648 → r ≤ size f args → r < 2147483648
+unfolding placesOf
+args-fit f r n a b c = omega arith

@@ -1,0 +1,70 @@
+-- Values that are really read at entry are ticked one behind the other; the loops, and what the returns come to.
+use mathlib.Core.Path.{_≡_, refl, sym, _∙_}
+use mathlib.Core.Bool.{Bool, true, false, _||_}
+use mathlib.Core.List.{List, [], _∷_, _++_, map}
+use Prim.Native.Nat.{ℕ, suc, _+_, _-_, _≤_, _<_}
+use native.Mathlib.Omega.{arith}
+use lib.Dec.{eqb}
+use lib.ListN.{set}
+use borrow.Author.Tests.{eq-eqb, ne-eqb}
+use Rattle.definition.specs.Lists.{gather, range}
+use Rattle.definition.specs.Owners.{stmtKind}
+use Rattle.definition.specs.Read.{marked}
+use Rattle.values.specs.Keys.{placesOf}
+use Rattle.values.specs.Tables.{at}
+use Rattle.names.specs.Walk.{Spot, useSpot, useSpots, entrySpots, ticked}
+
+module _ (ns : List ℕ) where
+  tick-append : (t : List ℕ) (xs ys : List Spot) → ticked ns t (xs ++ ys) ≡ ticked ns (ticked ns t xs) ys
+  unfolding ticked
+  tick-append t [] ys = refl
+  tick-append t (x ∷ xs) ys = tick-append (set t (at ns (x .place)) 1) xs ys
+
+  -- ---- the nodes of a statement, from k up to b
+  module _ (f order : List ℕ) where
+    pub tick-turn : (t t′ : List ℕ) (k b from n x : ℕ) → k < b → from ≡ placesOf f .exprs → n ≡ at order k → x ≡ at ns (from + n) → t′ ≡ set t x 1
+        → ticked ns t (map (λ j. useSpot f (at order j)) (range k (b - k))) ≡ ticked ns t′ (map (λ j. useSpot f (at order j)) (range (k + 1) (b - (k + 1))))
+    unfolding ticked range useSpot
+    tick-turn t t′ k b from n x h p q r s =
+        let m : b - k ≡ suc (b - (k + 1)) = omega arith in
+        rw (m, s, r, p, q)
+
+    pub tick-end : (t r : List ℕ) (k b : ℕ) → b ≤ k → r ≡ ticked ns t (map (λ j. useSpot f (at order j)) (range k (b - k))) → t ≡ r
+    unfolding ticked range
+    tick-end t r k b h e = let p : b - k ≡ 0 = omega arith in sym (e ∙ rw p)
+
+  -- ---- statements, from i up to n
+  pub stmts-start : (g : ℕ → List Spot) (t : List ℕ) (n m : ℕ) → n ≡ m → ticked ns t (gather g (range 0 m)) ≡ ticked ns t (gather g (range 0 (n - 0)))
+  stmts-start g t n m e = let k : n - 0 ≡ m = omega arith in rw k
+
+  pub stmts-turn : (g : ℕ → List Spot) (t t′ : List ℕ) (i n : ℕ) → i < n → t′ ≡ ticked ns t (g i) → ticked ns t (gather g (range i (n - i))) ≡ ticked ns t′ (gather g (range (i + 1) (n - (i + 1))))
+  unfolding gather range
+  stmts-turn g t t′ i n h e =
+      let p : n - i ≡ suc (n - (i + 1)) = omega arith in
+      rw (p, e) (tick-append t (g i) (gather g (range (i + 1) (n - (i + 1)))))
+
+  pub stmts-end : (g : ℕ → List Spot) (t r : List ℕ) (i n : ℕ) → n ≤ i → r ≡ ticked ns t (gather g (range i (n - i))) → t ≡ r
+  unfolding ticked range gather
+  stmts-end g t r i n h e = let p : n - i ≡ 0 = omega arith in sym (e ∙ rw p)
+
+  -- ---- one statement
+  module _ (f t : List ℕ) (i : ℕ) (d : Bool) (is : d ≡ (marked f i 1 || (eqb (stmtKind f i) 3 || eqb (stmtKind f i) 4))) where
+    pub tick-none : d ≡ true → t ≡ ticked ns t (entrySpots f i)
+    unfolding entrySpots ticked
+    tick-none h = rw (sym is ∙ h)
+
+    pub tick-some : (r : List ℕ) → d ≡ false → r ≡ ticked ns t (useSpots f i) → r ≡ ticked ns t (entrySpots f i)
+    unfolding entrySpots
+    tick-some r h e = rw (sym is ∙ h) e
+
+-- ---- does a statement make no parameter
+module _ (f : List ℕ) (i : ℕ) (d : Bool) (is : d ≡ marked f i 1) where
+  pub over-dead : d ≡ true → true ≡ (marked f i 1 || (eqb (stmtKind f i) 3 || eqb (stmtKind f i) 4))
+  over-dead h = rw (sym is ∙ h)
+
+  module _ (live : d ≡ false) (k : ℕ) (kind : k ≡ stmtKind f i) where
+    pub over-call : k ≡ 3 → true ≡ (marked f i 1 || (eqb (stmtKind f i) 3 || eqb (stmtKind f i) 4))
+    over-call h = rw (sym is ∙ live, ← kind, eq-eqb k 3 h)
+
+    pub over-branch : (k ≡ 3 → ⊥) → eqb k 4 ≡ (marked f i 1 || (eqb (stmtKind f i) 3 || eqb (stmtKind f i) 4))
+    over-branch h = rw (sym is ∙ live, ← kind, ne-eqb k 3 h)

@@ -1,0 +1,11 @@
+pub mod Signed
+pub mod Closing
+pub mod Trees
+pub mod Nodes
+pub mod Naming
+pub mod Running
+pub mod Stepping
+pub mod Walking
+pub mod Beginning
+pub mod Closed
+pub mod Unique

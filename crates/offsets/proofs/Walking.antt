@@ -1,0 +1,92 @@
+-- A walk over the blocks comes to the first parts of the next block, and what a block has is inside its section, so that its numbers have 32 bits.
+use mathlib.Core.Path.{_≡_, refl, sym, ap, _∙_}
+use mathlib.Core.Bool.{Bool, true, _&&_}
+use mathlib.Core.List.{List}
+use Prim.Native.Nat.{ℕ, _+_, _≤_, _<_}
+use native.Mathlib.Omega.{arith}
+use lib.Dec.{eqb}
+use lib.ListN.{getD}
+use mir.Syntax.{w8}
+use mir.Val.{Fits}
+use borrow.Author.Tests.{eqb-true}
+use Rattle.definition.specs.Edition.{blocks, phis, inputs, statements, lists}
+use Rattle.definition.specs.Lists.{sumBelow}
+use Rattle.definition.specs.Contents.{size}
+use Rattle.definition.specs.Owners.{blockPhis, blockStmts, phiInputs, firstPhi, firstStmt, firstInput, firstItem}
+use Rattle.definition.specs.Shape.{owned}
+use Rattle.definition.proofs.Bools.{both-true}
+use Rattle.records.proofs.Below.{sum-start, sum-le, sum-turn}
+use Rattle.records.proofs.Items.{size-small}
+use Rattle.values.proofs.Placed.{owned-inputs}
+use Rattle.offsets.specs.declared.rounds.Walk.{Walk}
+use Rattle.offsets.specs.Before.{Before}
+
+module _ (f : List ℕ) (counts : owned f ≡ true) where
+  two : (eqb (firstPhi f (size f blocks)) (size f phis) ≡ true) × (eqb (firstStmt f (size f blocks)) (size f statements) ≡ true)
+  unfolding owned
+  two =
+      let p = eqb (firstPhi f (size f blocks)) (size f phis) in
+      let s = eqb (firstStmt f (size f blocks)) (size f statements) in
+      let i = eqb (firstInput f (size f phis)) (size f inputs) in
+      let l = eqb (firstItem f (size f statements)) (size f lists) in
+      both-true p s (both-true (p && s) i (both-true (p && s && i) l counts .0) .0)
+
+  pub phis-inside : (b n : ℕ) → b < size f blocks → n ≡ blockPhis f b → firstPhi f b + n ≤ size f phis
+  unfolding firstPhi
+  phis-inside b n h e =
+      let t = sum-turn (blockPhis f) {i = b} refl e in
+      omega (arith, sum-le (blockPhis f) (b + 1) (size f blocks) (omega arith), eqb-true (firstPhi f (size f blocks)) (size f phis) (two .0))
+
+  pub stmts-inside : (b n : ℕ) → b < size f blocks → n ≡ blockStmts f b → firstStmt f b + n ≤ size f statements
+  unfolding firstStmt
+  stmts-inside b n h e =
+      let t = sum-turn (blockStmts f) {i = b} refl e in
+      omega (arith, sum-le (blockStmts f) (b + 1) (size f blocks) (omega arith), eqb-true (firstStmt f (size f blocks)) (size f statements) (two .1))
+
+  -- the inputs behind those of phi i have 32 bits
+  pub inputs-small : ((k : ℕ) → Fits w8 (getD f k 0)) → (i first n : ℕ) → i < size f phis → first ≡ firstInput f i → n ≡ phiInputs f i → first + n < 4294967296
+  unfolding firstInput
+  inputs-small bytes i first n h p q =
+      let t = sum-turn (phiInputs f) {i = i} p q in
+      omega (arith, sum-le (phiInputs f) (i + 1) (size f phis) (omega arith), owned-inputs f counts, size-small f bytes inputs)
+
+-- one of n numbers from a on
+pub within : (a i n s : ℕ) → i < n → a + n ≤ s → a + i < s
+within a i n s h l = omega arith
+
+-- the inputs of phis from a on: how a walk begins, a turn, and the end
+pub inputs-start : (f : List ℕ) (a x : ℕ) → x ≡ firstInput f a → x ≡ firstInput f (a + 0)
+inputs-start f a x e = let q : a + 0 ≡ a = omega arith in rw q e
+
+pub inputs-turn : (f : List ℕ) (a i x n : ℕ) → x ≡ firstInput f (a + i) → n ≡ phiInputs f (a + i) → x + n ≡ firstInput f (a + (i + 1))
+unfolding firstInput
+inputs-turn f a i x n p q = let s : a + (i + 1) ≡ a + i + 1 = omega arith in rw s (sum-turn (phiInputs f) p q)
+
+pub inputs-end : (f : List ℕ) (a i n x : ℕ) → i ≤ n → n ≤ i → x ≡ firstInput f (a + i) → x ≡ firstInput f (a + n)
+inputs-end f a i n x p q e = let s : n ≡ i = omega arith in rw s e
+
+pub before-start : (f : List ℕ) (c : Bool) → Before f 0 (record { phi = 0; input = 0; stmt = 0; changed = c })
+unfolding firstPhi firstStmt firstInput
+before-start f c = record {
+  phi = sum-start (blockPhis f);
+  input = sum-start (phiInputs f) ∙ ap (λ (i : ℕ). sumBelow i (phiInputs f)) (sum-start (blockPhis f));
+  stmt = sum-start (blockStmts f);
+}
+
+pub before-next : (f : List ℕ) (b : ℕ) (w : Walk) (n m i : ℕ) (c : Bool) → Before f b w → n ≡ blockPhis f b → m ≡ blockStmts f b → i ≡ firstInput f (w .phi + n)
+    → Before f (b + 1) (record { phi = w .phi + n; input = i; stmt = w .stmt + m; changed = c })
+unfolding firstPhi firstStmt
+before-next f b w n m i c h p q e =
+    let phi : w .phi + n ≡ firstPhi f (b + 1) = sum-turn (blockPhis f) (h .phi) p in
+    record { phi = phi; input = e ∙ ap (firstInput f) phi; stmt = sum-turn (blockStmts f) (h .stmt) q }
+
+-- the parts of the block that a walk stands before
+module _ (f : List ℕ) (counts : owned f ≡ true) (b : ℕ) (w : Walk) (here : b < size f blocks) (before : Before f b w) where
+  pub walk-phis : (n : ℕ) → n ≡ blockPhis f b → w .phi + n ≤ size f phis
+  walk-phis n e = rw (before .phi) (phis-inside f counts b n here e)
+
+  pub walk-stmts : (n : ℕ) → n ≡ blockStmts f b → w .stmt + n ≤ size f statements
+  walk-stmts n e = rw (before .stmt) (stmts-inside f counts b n here e)
+
+  pub walk-input : w .input ≡ firstInput f (w .phi)
+  walk-input = before .input ∙ ap (firstInput f) (sym (before .phi))

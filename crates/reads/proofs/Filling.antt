@@ -1,0 +1,132 @@
+-- A list that is filled goes on where it stopped, so that what is put in runs is put at once; begun as zeros and with room for all, it ends as these
+-- numbers with zeros behind. An expression's Use nodes are its children's, which stand below it.
+use mathlib.Core.Path.{_≡_, refl, sym, ap, _∙_}
+use mathlib.Core.List.{List, [], _∷_, _++_, append-nil}
+use Prim.Native.Nat.{ℕ, zero, suc, _+_, _-_, _≤_, _<_}
+use native.Mathlib.Decide.{decLt}
+use native.Mathlib.Omega.{arith}
+use lib.ListN.{length, getD, set, replicate, length-append, length-replicate, List·getD-append}
+use lib.Seq.{append-snoc, getD-at, set-append-seam}
+use borrow.Author.Tests.{ne-eqb, lt-ltb, le-ltb}
+use Rattle.definition.specs.Contents.{exprWord}
+use Rattle.definition.specs.Listing.{padded}
+use Rattle.reads.specs.Uses.{nodeUses, usesBelow}
+use Rattle.reads.specs.Filling.{Filling, filling, put, putAll, usesUnder}
+
+-- ---- numbers put
+pub put-in : (l : List ℕ) (k x : ℕ) → k < length l → filling (set l k x) (k + 1) ≡ put (filling l k) x
+unfolding put
+put-in l k x h = rw (lt-ltb k (length l) h)
+
+pub put-out : (l : List ℕ) (k x : ℕ) → length l ≤ k → filling l k ≡ put (filling l k) x
+unfolding put
+put-out l k x h = rw (le-ltb k (length l) h)
+
+pub put-append : (r : Filling) (xs ys : List ℕ) → putAll r (xs ++ ys) ≡ putAll (putAll r xs) ys
+unfolding putAll
+put-append r [] ys = refl
+put-append r (x ∷ xs) ys = put-append (put r x) xs ys
+
+-- one run behind another
+pub put-more : (p q r : Filling) (xs ys : List ℕ) → q ≡ putAll p xs → r ≡ putAll q ys → r ≡ putAll p (xs ++ ys)
+put-more p q r xs ys a b = b ∙ ap (λ (s : Filling). putAll s ys) a ∙ sym (put-append p xs ys)
+
+-- ---- into zeros
+-- the next number behind those that stand there
+pub padded-more : (n : ℕ) (l : List ℕ) (x : ℕ) → length l < n → set (padded n l) (length l) x ≡ padded n (l ++ (x ∷ []))
+unfolding padded
+padded-more n l x h =
+    let a : n - length l ≡ suc (n - length (l ++ (x ∷ []))) = omega (arith, length-append l (x ∷ [])) in
+    rw a (set-append-seam l 0 (replicate (n - length (l ++ (x ∷ []))) 0) x ∙ sym (append-snoc l x (replicate (n - length (l ++ (x ∷ []))) 0)))
+
+pub padded-length : (n : ℕ) (l : List ℕ) → length l ≤ n → length (padded n l) ≡ n
+unfolding padded
+padded-length n l h = omega (arith, length-append l (replicate (n - length l) 0), length-replicate {A = ℕ} (n - length l) 0)
+
+pub padded-none : (n : ℕ) → replicate n 0 ≡ padded n []
+unfolding padded
+padded-none n = let a : n - 0 ≡ n = omega arith in sym (rw a)
+
+filled-on : (n : ℕ) (xs l : List ℕ) → length l + length xs ≤ n → putAll (filling (padded n l) (length l)) xs ≡ filling (padded n (l ++ xs)) (length l + length xs)
+unfolding putAll
+filled-on n [] l h = let a : length l + 0 ≡ length l = omega arith in rw (append-nil l, a)
+filled-on n (x ∷ xs) l h =
+    let a : length (l ++ (x ∷ [])) ≡ length l + 1 = length-append l (x ∷ []) in
+    let b : length l + 1 + length xs ≡ length l + suc (length xs) = omega arith in
+    let c : length l < length (padded n l) = omega (arith, padded-length n l (omega arith)) in
+    ap (λ (r : Filling). putAll r xs)
+    (sym (put-in (padded n l) (length l) x c) ∙ rw (padded-more n l x (omega arith), ← a))
+    ∙ filled-on n xs (l ++ (x ∷ [])) (omega arith)
+    ∙ rw (append-snoc l x xs, a, b)
+
+pub filled : (n : ℕ) (xs : List ℕ) → length xs ≤ n → putAll (filling (replicate n 0) 0) xs ≡ filling (padded n xs) (length xs)
+filled n xs h =
+    let a : 0 + length xs ≡ length xs = omega arith in
+    ap (λ (l : List ℕ). putAll (filling l 0) xs) (padded-none n) ∙ filled-on n xs [] (omega arith) ∙ ap (filling (padded n xs)) a
+
+-- ---- the Use nodes of an expression
+pub below-length : (f : List ℕ) (n : ℕ) → length (usesBelow f n) ≡ n
+unfolding usesBelow
+below-length f zero = refl
+below-length f (suc n) = omega (arith, length-append (usesBelow f n) (nodeUses f (usesBelow f n) n ∷ []), below-length f n)
+
+last-at : (t : List (List ℕ)) (x z : List ℕ) (n i : ℕ) → length t ≡ n → i < suc n → (i < n → getD t i [] ≡ z) → (i ≡ n → x ≡ z) → getD (t ++ (x ∷ [])) i [] ≡ z
+last-at t x z n i e h below last = go (decLt i n)
+  where
+    go : Dec (i < n) → getD (t ++ (x ∷ [])) i [] ≡ z
+    go (yes k) = List·getD-append t (x ∷ []) [] i (omega arith) ∙ below k
+    go (no k) = let q : i ≡ n = omega arith in getD-at t x [] [] i (e ∙ sym q) ∙ last q
+
+below-at : (f : List ℕ) (n i : ℕ) → i < n → getD (usesBelow f n) i [] ≡ nodeUses f (usesBelow f i) i
+unfolding usesBelow
+below-at f zero i h = absurd (omega arith)
+below-at f (suc n) i h = last-at (usesBelow f n) (nodeUses f (usesBelow f n) n) (nodeUses f (usesBelow f i) i) n i (below-length f n) h (below-at f n i) (λ q. rw q)
+
+none-at : (t : List (List ℕ)) (i : ℕ) → length t ≤ i → getD t i [] ≡ []
+none-at [] i h = refl
+none-at (x ∷ t) zero h = absurd (omega arith)
+none-at (x ∷ t) (suc i) h = none-at t i (omega arith)
+
+pub under-none : (f : List ℕ) (b x : ℕ) → b ≤ x → usesUnder f b x ≡ []
+unfolding usesUnder
+under-none f b x h = none-at (usesBelow f b) x (omega (arith, below-length f b))
+
+pub under-is : (f : List ℕ) (b x : ℕ) → x < b → usesUnder f b x ≡ nodeUses f (usesBelow f x) x
+unfolding usesUnder
+under-is f b x h = below-at f b x h
+
+pub put-none : (f : List ℕ) (b x : ℕ) (r : Filling) → b ≤ x → r ≡ putAll r (usesUnder f b x)
+unfolding putAll
+put-none f b x r h = sym (ap (putAll r) (under-none f b x h))
+
+-- of expression x, whose tag t was read: r is what p becomes
+module _ (f : List ℕ) (b x t : ℕ) (p : Filling) (tag : t ≡ exprWord f x 0) (below : x < b) where
+  pub put-other : (t ≡ 2 → ⊥) → (t ≡ 3 → ⊥) → (t ≡ 4 → ⊥) → (t ≡ 5 → ⊥) → p ≡ putAll p (usesUnder f b x)
+  unfolding putAll nodeUses
+  put-other a c d e =
+      let u : usesUnder f b x ≡ [] = under-is f b x below ∙ rw (← tag, ne-eqb t 2 a, ne-eqb t 3 c, ne-eqb t 4 d, ne-eqb t 5 e) in
+      sym (ap (putAll p) u)
+
+  module _ (r : Filling) where
+    pub put-use : t ≡ 2 → r ≡ put p x → r ≡ putAll p (usesUnder f b x)
+    unfolding putAll nodeUses
+    put-use e h = let u : usesUnder f b x ≡ x ∷ [] = under-is f b x below ∙ rw (sym tag ∙ e) in h ∙ sym (ap (putAll p) u)
+
+    pub put-bin : (q : Filling) (i j : ℕ) → t ≡ 3 → i ≡ exprWord f x 3 → j ≡ exprWord f x 4
+        → q ≡ putAll p (usesUnder f x i) → r ≡ putAll q (usesUnder f x j) → r ≡ putAll p (usesUnder f b x)
+    unfolding nodeUses usesUnder
+    put-bin q i j e m n g h =
+        put-more p q r (getD (usesBelow f x) i []) (getD (usesBelow f x) j []) g h
+        ∙ ap (putAll p) (rw (m, n) (sym (under-is f b x below ∙ rw (sym tag ∙ e))))
+
+    pub put-un : (i : ℕ) → t ≡ 4 → i ≡ exprWord f x 3 → r ≡ putAll p (usesUnder f x i) → r ≡ putAll p (usesUnder f b x)
+    unfolding nodeUses usesUnder
+    put-un i e m h = h ∙ ap (putAll p) (rw m (sym (under-is f b x below ∙ rw (sym tag ∙ e))))
+
+    pub put-load : (i : ℕ) → t ≡ 5 → i ≡ exprWord f x 2 → r ≡ putAll p (usesUnder f x i) → r ≡ putAll p (usesUnder f b x)
+    unfolding nodeUses usesUnder
+    put-load i e m h = h ∙ ap (putAll p) (rw m (sym (under-is f b x below ∙ rw (sym tag ∙ e))))
+
+-- a bound falls with the expression that it bounds
+pub falls-to : (x b t : ℕ) → b ≡ t → x < b → x < t
+falls-to x b t e h = omega arith

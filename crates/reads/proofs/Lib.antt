@@ -1,0 +1,13 @@
+pub mod Trees
+pub mod Statements
+pub mod Filling
+pub mod Orders
+pub mod Visits
+pub mod Named
+pub mod Nodes
+pub mod Live
+pub mod Readers
+pub mod Phis
+pub mod Loading
+pub mod Forest
+pub mod Unique

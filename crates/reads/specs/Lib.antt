@@ -1,0 +1,5 @@
+pub mod Uses
+pub mod Filling
+pub mod Orders
+pub mod Counts
+pub mod Loads
