@@ -1,0 +1,229 @@
+-- Where the region at a row ends: the scan's turns, what each return of the goal comes to, and that a goal lies behind its row.
+use mathlib.Core.Path.{_≡_, refl, sym, ap, ap₂, _∙_}
+use mathlib.Core.Bool.{Bool, true, false, cond, _&&_, _||_, or-true}
+use mathlib.Core.List.{List}
+use mathlib.Core.Logic.{_⊎_, inl, inr, ⊎-elim}
+use Prim.Native.Nat.{ℕ, zero, suc, _+_, _-_, _≤_, _<_}
+use native.Mathlib.Omega.{arith}
+use borrow.Author.Tests.{eq-eqb, ne-eqb, eqb-true}
+use lib.Dec.{eqb, lit≤}
+use Rattle.passes.specs.Rows.{kindOf, indentOf, nameOf}
+use Rattle.passes.specs.Tests.{at, isLabel, isCond, labels, backs, stops, verdict, backVerdict, along}
+use Rattle.passes.specs.Spans.{outside}
+use Rattle.passes.specs.Forming.{onward, labelFrom, latest, backFrom, reachedIn, ifGoalAt, ifGoal, doGoalAt, doGoal}
+use Rattle.passes.proofs.Verdicts.{label-is, label-not, cond-is, cond-not}
+use Rattle.passes.proofs.Along.{along-turn, along-end}
+
+three-le : (a b : Bool) (x y : ℕ) → x ≤ 2 → y ≤ 2 → cond a x (cond b y 0) ≤ 2
+three-le true b x y h k = h
+three-le false true x y h k = k
+three-le false false x y h k = lit≤ tt
+
+verdict-le : (m d w : ℕ) → verdict m d w ≤ 2
+unfolding verdict
+verdict-le m d w = three-le (labels m w && eqb (suc (indentOf w)) d) (stops d w) 1 2 (lit≤ tt) (lit≤ tt)
+
+back-le : (m d w : ℕ) → backVerdict m d w ≤ 2
+unfolding backVerdict
+back-le m d w = three-le (stops d w) (eqb (indentOf w) d && backs m w) 2 1 (lit≤ tt) (lit≤ tt)
+
+-- ---- the scan for the label
+module _ (n m d : ℕ) (R : List ℕ) (j : ℕ) where
+  pub label-none : n ≤ j → n ≡ labelFrom n m d R j (n - j)
+  unfolding labelFrom
+  label-none h = sym (along-end (λ i w r. onward (verdict m d w) i n r) n R j n h)
+
+  module _ (h : j < n) (w : ℕ) (e : w ≡ at R j) (v : ℕ) (ev : v ≡ verdict m d w) where
+    label-turn : labelFrom n m d R j (n - j) ≡ onward v j n (labelFrom n m d R (j + 1) (n - (j + 1)))
+    unfolding labelFrom
+    label-turn = along-turn (λ i w r. onward (verdict m d w) i n r) n R j n h w e ∙ ap (λ (x : ℕ). onward x j n (labelFrom n m d R (j + 1) (n - (j + 1)))) (sym ev)
+
+    pub label-found : v ≡ 1 → j ≡ labelFrom n m d R j (n - j)
+    unfolding onward
+    label-found q = sym (label-turn ∙ ap (λ (x : ℕ). onward x j n (labelFrom n m d R (j + 1) (n - (j + 1)))) q)
+
+    pub label-ended : v ≡ 2 → n ≡ labelFrom n m d R j (n - j)
+    unfolding onward
+    label-ended q = sym (label-turn ∙ ap (λ (x : ℕ). onward x j n (labelFrom n m d R (j + 1) (n - (j + 1)))) q)
+
+    pub label-on : (v ≡ 1 → ⊥) → (v ≡ 2 → ⊥) → labelFrom n m d R j (n - j) ≡ labelFrom n m d R (j + 1) (n - (j + 1))
+    unfolding onward
+    label-on a b =
+        let z : v ≡ 0 = omega (arith, verdict-le m d w) in
+        label-turn ∙ ap (λ (x : ℕ). onward x j n (labelFrom n m d R (j + 1) (n - (j + 1)))) z
+
+-- ---- a loop that answers a row's place, the end, or what is said behind it, ends in between
+module _ (g : ℕ → ℕ → ℕ → ℕ) (n : ℕ) (R : List ℕ) (one : (i w r : ℕ) → (g i w r ≡ i) ⊎ ((g i w r ≡ n) ⊎ (g i w r ≡ r))) where
+  pub within : (f i : ℕ) → i + f ≡ n → (i ≤ along g n R i f) × (along g n R i f ≤ n)
+  unfolding along
+  within zero i e = (omega arith, omega arith)
+  within (suc f) i e =
+      let h = within f (suc i) (omega arith) in
+      let r : ℕ = along g n R (suc i) f in
+      ⊎-elim (λ p. (omega arith, omega arith))
+      (λ q. ⊎-elim (λ p. (omega arith, omega arith)) (λ p. (omega (arith, h .0), omega (arith, h .1))) q) (one i (at R i) r)
+
+onward-one : (v i n r : ℕ) → (onward v i n r ≡ i) ⊎ ((onward v i n r ≡ n) ⊎ (onward v i n r ≡ r))
+unfolding onward
+onward-one zero i n r = inr (inr refl)
+onward-one (suc zero) i n r = inl refl
+onward-one (suc (suc v)) i n r = inr (inl refl)
+
+latest-one : (v i n r : ℕ) → (latest v i n r ≡ i) ⊎ ((latest v i n r ≡ n) ⊎ (latest v i n r ≡ r))
+unfolding latest
+latest-one zero i n r = inr (inr refl)
+latest-one (suc zero) i n r = go (eqb r n)
+  where
+    go : (b : Bool) → (cond b i r ≡ i) ⊎ ((cond b i r ≡ n) ⊎ (cond b i r ≡ r))
+    go true = inl refl
+    go false = inr (inr refl)
+latest-one (suc (suc v)) i n r = inr (inl refl)
+
+pub label-within : (n m d : ℕ) (R : List ℕ) (i : ℕ) → i ≤ n → (i ≤ labelFrom n m d R i (n - i)) × (labelFrom n m d R i (n - i) ≤ n)
+unfolding labelFrom
+label-within n m d R i h = within (λ i w r. onward (verdict m d w) i n r) n R (λ i w r. onward-one (verdict m d w) i n r) (n - i) i (omega arith)
+
+pub back-within : (n m d : ℕ) (R : List ℕ) (i : ℕ) → i ≤ n → (i ≤ backFrom n m d R i (n - i)) × (backFrom n m d R i (n - i) ≤ n)
+unfolding backFrom
+back-within n m d R i h = within (λ i w r. latest (backVerdict m d w) i n r) n R (λ i w r. latest-one (backVerdict m d w) i n r) (n - i) i (omega arith)
+
+-- ---- the goal of an if
+module _ (R S : List ℕ) (n k w : ℕ) (e : w ≡ at R k) (t : ℕ) (et : t ≡ kindOf w) where
+  pub if-no : (t ≡ 2 → ⊥) → n ≡ ifGoal R S n k
+  unfolding ifGoal
+  if-no a = let c : isCond (at R k) ≡ false = ap isCond (sym e) ∙ cond-not w (λ z. a (et ∙ z)) in rw c
+
+  module _ (a : t ≡ 2) (m d : ℕ) (em : m ≡ nameOf w) (ed : d ≡ indentOf w) (j : ℕ) (ej : j ≡ labelFrom n m d R (k + 1) (n - (k + 1))) where
+    if-at : ifGoal R S n k ≡ ifGoalAt R S n k j
+    unfolding ifGoal
+    if-at =
+        let c : isCond (at R k) ≡ true = ap isCond (sym e) ∙ cond-is w (sym et ∙ a) in
+        let q : labelFrom n (nameOf (at R k)) (indentOf (at R k)) R (k + 1) (n - (k + 1)) ≡ j =
+        ap (λ (z : ℕ). labelFrom n (nameOf z) (indentOf z) R (k + 1) (n - (k + 1))) (sym e)
+        ∙ ap₂ (λ (x y : ℕ). labelFrom n x y R (k + 1) (n - (k + 1))) (sym em) (sym ed) ∙ sym ej in
+        rw (c, q)
+
+    pub if-none : j ≡ n → n ≡ ifGoal R S n k
+    unfolding ifGoalAt
+    if-none b = sym (if-at ∙ simp (eq-eqb j n b))
+
+    pub if-next : j ≡ k + 1 → n ≡ ifGoal R S n k
+    unfolding ifGoalAt
+    if-next b = sym (if-at ∙ simp (eq-eqb j (k + 1) b, or-true))
+
+    module _ (r : Bool) (er : r ≡ reachedIn R S (k + 1) j (k + 1) j) where
+      pub if-reached : r ≡ true → n ≡ ifGoal R S n k
+      unfolding ifGoalAt
+      if-reached b = sym (if-at ∙ simp (sym er ∙ b, or-true))
+
+      pub if-yes : (j ≡ n → ⊥) → (j ≡ k + 1 → ⊥) → r ≡ false → j ≡ ifGoal R S n k
+      unfolding ifGoalAt
+      if-yes b c d = sym (if-at ∙ simp (ne-eqb j n b, ne-eqb j (k + 1) c, sym er ∙ d))
+
+-- a choice between n and s, and again n, that is not n
+pub chosen : (b q : Bool) (s n : ℕ) → (cond b (cond q n s) n ≡ n → ⊥) → cond b (cond q n s) n ≡ s
+chosen true true s n h = absurd (h refl)
+chosen true false s n h = refl
+chosen false q s n h = absurd (h refl)
+
+pub if-after : (R S : List ℕ) (n k j : ℕ) → k < n → j ≡ ifGoal R S n k → (j ≡ n → ⊥) → (k < j) × (j < n)
+unfolding ifGoal ifGoalAt
+if-after R S n k j h e a =
+    let s : ℕ = labelFrom n (nameOf (at R k)) (indentOf (at R k)) R (k + 1) (n - (k + 1)) in
+    let c : j ≡ s = e ∙ chosen (isCond (at R k)) (eqb s n || (eqb s (k + 1) || reachedIn R S (k + 1) s (k + 1) s)) s n (λ z. a (e ∙ z)) in
+    let w = label-within n (nameOf (at R k)) (indentOf (at R k)) R (k + 1) (omega arith) in
+    (omega (arith, w .0), omega (arith, w .1))
+
+-- ---- the search for the last back edge: that found so far, unless there is a later one
+abbrev pub unlessLater : ℕ → ℕ → ℕ → ℕ
+unlessLater n last r = cond (eqb r n) last r
+
+pub back-start : (n r : ℕ) → r ≡ unlessLater n n r
+back-start n r = go (eqb r n) refl
+  where
+    go : (b : Bool) → eqb r n ≡ b → r ≡ cond b n r
+    go true e = eqb-true r n e
+    go false e = refl
+
+module _ (n m d : ℕ) (R : List ℕ) (j last : ℕ) where
+  pub back-none : n ≤ j → last ≡ unlessLater n last (backFrom n m d R j (n - j))
+  unfolding backFrom
+  back-none h =
+      let e : backFrom n m d R j (n - j) ≡ n = along-end (λ i w r. latest (backVerdict m d w) i n r) n R j n h in
+      sym (ap (unlessLater n last) e ∙ ap (λ (b : Bool). cond b last n) (eq-eqb n n refl))
+
+  module _ (h : j < n) (w : ℕ) (e : w ≡ at R j) (v : ℕ) (ev : v ≡ backVerdict m d w) where
+    back-turn : backFrom n m d R j (n - j) ≡ latest v j n (backFrom n m d R (j + 1) (n - (j + 1)))
+    unfolding backFrom
+    back-turn =
+        along-turn (λ i w r. latest (backVerdict m d w) i n r) n R j n h w e ∙ ap (λ (x : ℕ). latest x j n (backFrom n m d R (j + 1) (n - (j + 1)))) (sym ev)
+
+    pub back-ended : v ≡ 2 → last ≡ unlessLater n last (backFrom n m d R j (n - j))
+    unfolding latest
+    back-ended q =
+        sym (ap (unlessLater n last) (back-turn ∙ ap (λ (x : ℕ). latest x j n (backFrom n m d R (j + 1) (n - (j + 1)))) q)
+        ∙ ap (λ (b : Bool). cond b last n) (eq-eqb n n refl))
+
+    pub back-on : (v ≡ 2 → ⊥) → (l : ℕ) → l ≡ cond (eqb v 1) j last
+        → unlessLater n last (backFrom n m d R j (n - j)) ≡ unlessLater n l (backFrom n m d R (j + 1) (n - (j + 1)))
+    unfolding latest
+    back-on a l el =
+        ap (unlessLater n last) back-turn ∙ go v a (omega (arith, back-le m d w)) (backFrom n m d R (j + 1) (n - (j + 1)))
+        ∙ ap (λ (x : ℕ). unlessLater n x (backFrom n m d R (j + 1) (n - (j + 1)))) (sym el)
+      where
+        edge : (b : Bool) (r : ℕ) → eqb r n ≡ b → unlessLater n last (cond b j r) ≡ cond b j r
+        edge true r e = ap (λ (b : Bool). cond b last j) (ne-eqb j n (omega arith))
+        edge false r e = ap (λ (b : Bool). cond b last r) e
+
+        go : (v : ℕ) → (v ≡ 2 → ⊥) → v ≤ 2 → (r : ℕ) → unlessLater n last (latest v j n r) ≡ unlessLater n (cond (eqb v 1) j last) r
+        go zero a b r = refl
+        go (suc zero) a b r = edge (eqb r n) r refl
+        go (suc (suc v)) a b r = absurd (a (omega arith))
+
+-- ---- the goal of a loop
+module _ (R S : List ℕ) (n k w : ℕ) (e : w ≡ at R k) (t : ℕ) (et : t ≡ kindOf w) where
+  pub do-no : (t ≡ 1 → ⊥) → n ≡ doGoal R S n k
+  unfolding doGoal
+  do-no a = let c : isLabel (at R k) ≡ false = ap isLabel (sym e) ∙ label-not w (λ z. a (et ∙ z)) in rw c
+
+  module _ (a : t ≡ 1) (m x : ℕ) (em : m ≡ nameOf w) (ex : x ≡ indentOf w) (j : ℕ) (ej : j ≡ backFrom n m (x + 1) R (k + 1) (n - (k + 1))) where
+    do-at : doGoal R S n k ≡ doGoalAt R S n k j
+    unfolding doGoal
+    do-at =
+        let c : isLabel (at R k) ≡ true = ap isLabel (sym e) ∙ label-is w (sym et ∙ a) in
+        let q : backFrom n (nameOf (at R k)) (indentOf (at R k) + 1) R (k + 1) (n - (k + 1)) ≡ j =
+        ap (λ (z : ℕ). backFrom n (nameOf z) (indentOf z + 1) R (k + 1) (n - (k + 1))) (sym e)
+        ∙ ap₂ (λ (x y : ℕ). backFrom n x (y + 1) R (k + 1) (n - (k + 1))) (sym em) (sym ex) ∙ sym ej in
+        rw (c, q)
+
+    pub do-none : j ≡ n → n ≡ doGoal R S n k
+    unfolding doGoalAt
+    do-none b = sym (do-at ∙ simp (eq-eqb j n b))
+
+    module _ (s : ℕ) (es : s ≡ at S m) (o : Bool) (eo : o ≡ outside s j (j + 1)) where
+      aimed-is : outside (at S (nameOf (at R k))) j (j + 1) ≡ o
+      aimed-is = ap (λ (z : ℕ). outside (at S (nameOf z)) j (j + 1)) (sym e) ∙ ap (λ (z : ℕ). outside (at S z) j (j + 1)) (sym em) ∙ ap (λ (z : ℕ). outside z j (j + 1)) (sym es) ∙ sym eo
+
+      pub do-aimed : o ≡ true → n ≡ doGoal R S n k
+      unfolding doGoalAt
+      do-aimed b = sym (do-at ∙ simp (aimed-is ∙ b, or-true))
+
+      module _ (r : Bool) (er : r ≡ reachedIn R S (k + 1) j k (j + 1)) where
+        pub do-reached : r ≡ true → n ≡ doGoal R S n k
+        unfolding doGoalAt
+        do-reached b = sym (do-at ∙ simp (sym er ∙ b, or-true))
+
+        pub do-yes : (j ≡ n → ⊥) → o ≡ false → r ≡ false → j ≡ doGoal R S n k
+        unfolding doGoalAt
+        do-yes b c d = sym (do-at ∙ simp (ne-eqb j n b, aimed-is ∙ c, sym er ∙ d))
+
+pub do-after : (R S : List ℕ) (n k j : ℕ) → k < n → j ≡ doGoal R S n k → (j ≡ n → ⊥) → k < j
+unfolding doGoal doGoalAt
+do-after R S n k j h e a =
+    let s : ℕ = backFrom n (nameOf (at R k)) (indentOf (at R k) + 1) R (k + 1) (n - (k + 1)) in
+    let c : j ≡ s = e ∙ chosen (isLabel (at R k)) (eqb s n || (outside (at S (nameOf (at R k))) s (s + 1) || reachedIn R S (k + 1) s k (s + 1))) s n (λ z. a (e ∙ z)) in
+    let w = back-within n (nameOf (at R k)) (indentOf (at R k) + 1) R (k + 1) (omega arith) in
+    omega (arith, w .0)
+
+pub back-below : (n m d : ℕ) (R : List ℕ) (i j : ℕ) → i ≤ n → j ≡ backFrom n m d R i (n - i) → (j ≡ n → ⊥) → j < n
+back-below n m d R i j h e a = omega (arith, back-within n m d R i h .1)

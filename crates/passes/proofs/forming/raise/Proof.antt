@@ -1,0 +1,83 @@
+use Rattle.passes.proofs.Moves.{changeF, changed-all, change-turn, change-end}
+use Rattle.passes.specs.Forming.{raised}
+use lib.ListN.{length, length-set}
+use mathlib.Core.Path.{_≡_, refl, sym, _∙_}
+use Prim.Native.Nat.{_-_, _≤_}
+use native.Mathlib.Omega.{arith}
+use borrow.Author.Needs.{needs}
+use Rattle.passes.proofs.forming.raise.Statement.{statement}
+use Rattle.passes.proofs.forming.raise.Tie as tie
+use Rattle.passes.proofs.forming.raise.Reads as reads
+use Rattle.passes.proofs.forming.raise.Lts as lts
+use Rattle.passes.proofs.forming.up.Reads as up-reads
+
+abbrev Inv-loop : tie.InvT-loop
+Inv-loop rows₀ a b k₀ rows k = (a ≤ k) × (k ≤ b) × (length rows ≡ length rows₀) × (changeF raised rows₀ a (b - a) ≡ changeF raised rows k (b - k))
+
+abbrev μ-loop : tie.MeasureT-loop
+μ-loop rows₀ a b k₀ rows k = b - k
+
+-- src/forming.rt:27:5
+loop-holds : tie.Need-loop-holds Inv-loop μ-loop
+loop-holds c = (omega arith, omega arith, refl, refl)
+
+-- src/forming.rt:28:22
+mul-up : tie.Need-mul-up Inv-loop μ-loop
+mul-up c = search needs
+
+-- src/forming.rt:28:22
+slice-read-up : tie.Need-slice-read-up Inv-loop μ-loop
+slice-read-up c = search needs
+
+-- src/forming.rt:28:19
+up-requires : tie.Need-up-requires Inv-loop μ-loop
+up-requires c κs = search needs
+
+-- src/forming.rt:28:9
+mul-rows : tie.Need-mul-rows Inv-loop μ-loop
+mul-rows c = search needs
+
+-- src/forming.rt:28:9
+slice-write-rows : tie.Need-slice-write-rows Inv-loop μ-loop
+slice-write-rows c = search needs
+
+-- src/forming.rt:29:9
+add-k : tie.Need-add-k Inv-loop μ-loop
+add-k c = search needs
+
+-- src/forming.rt:27:5
+loop-less : tie.Need-loop-less Inv-loop μ-loop
+loop-less c = search needs
+
+-- src/forming.rt:27:5
+loop-again : tie.Need-loop-again Inv-loop μ-loop
+loop-again c = let l = c .before .before .before .loop in
+    (omega arith, omega arith, simp length-set (l .inv .2), l .inv .3 ∙ change-turn raised (l .rows) (l .k) _ _ (omega arith) (c .up .ensures))
+
+-- src/forming.rt:22:1
+same-length : tie.Need-same-length Inv-loop μ-loop
+same-length c = search needs
+
+-- src/forming.rt:22:1
+returns : tie.Need-returns Inv-loop μ-loop
+returns c = let l = c .before .loop in
+    let a = c .before .before .before .args in
+    sym (l .inv .3 ∙ change-end raised (l .rows) (l .k) (a .b) (omega arith)) ∙ changed-all raised (a .rows .now) (a .a) (a .b) (omega arith) (omega arith)
+
+pub raise-spec : {M : Type 1} → statement M
+raise-spec =
+    tie.close
+    (tie.spec
+    Inv-loop
+    μ-loop
+    loop-holds
+    mul-up
+    slice-read-up
+    up-requires
+    mul-rows
+    slice-write-rows
+    add-k
+    loop-less
+    loop-again
+    same-length
+    returns)

@@ -1,0 +1,101 @@
+use Rattle.passes.proofs.Turns.{sweep-stop, sweep-deep, sweep-on, sweep-start, if-room}
+use Rattle.passes.specs.Sweeps.{ifTried, sweepRows}
+use lib.ListN.{length}
+use mathlib.Core.Path.{_≡_, refl, sym, _∙_}
+use Prim.Native.Nat.{_+_, _-_, _≤_}
+use native.Mathlib.Omega.{arith}
+use borrow.Author.Needs.{needs}
+use Rattle.passes.proofs.ifs.sweep_ifs.Statement.{statement}
+use Rattle.passes.proofs.ifs.sweep_ifs.Tie as tie
+use Rattle.passes.proofs.ifs.sweep_ifs.Reads as reads
+use Rattle.passes.proofs.ifs.sweep_ifs.Lts as lts
+use Rattle.passes.proofs.ifs.try_if.Reads as try-if-reads
+
+abbrev Inv-loop : tie.InvT-loop
+Inv-loop rows₀ spans₀ n rest₀ regions₀ k₀ rows spans rest regions k = (rest ≤ length rows₀ + n) × (rest ≤ 18446744073709551615) × (regions ≤ k) × (length rows ≡ length rows₀) × (length spans ≡ length spans₀)
+    × (sweepRows ifTried _+_ (length rows₀ + n) rows₀ spans₀ 0 n 0 ≡ sweepRows ifTried _+_ (length rows₀ + n - k) rows spans k rest regions)
+
+abbrev μ-loop : tie.MeasureT-loop
+μ-loop rows₀ spans₀ n rest₀ regions₀ k₀ rows spans rest regions k = length rows₀ + n - k
+
+-- src/ifs.rt:101:5
+loop-holds : tie.Need-loop-holds Inv-loop μ-loop
+loop-holds c = (omega arith, omega arith, omega arith, refl, refl, sweep-start ifTried _+_ _ _ _ _)
+
+-- src/ifs.rt:102:13
+try-if-requires : tie.Need-try-if-requires Inv-loop μ-loop
+try-if-requires c κs = search needs
+
+-- src/ifs.rt:104:13
+same-length : tie.Need-same-length Inv-loop μ-loop
+same-length c = search needs
+
+-- src/ifs.rt:104:13
+same-length-2 : tie.Need-same-length-2 Inv-loop μ-loop
+same-length-2 c = search needs
+
+-- src/ifs.rt:104:13
+returns : tie.Need-returns Inv-loop μ-loop
+returns c = sweep-deep ifTried _+_ _ _ _ _ _ _ (c .before .before .before .before .before .before .before .before .loop-test .taken) (c .before .before .before .before .before .before .before .before .before .loop .inv .0) _ _ _ (c .before .before .before .before .before .try-if .ensures) (c .if1 .taken) ∙ sym (c .before .before .before .before .before .before .before .before .before .loop .inv .5)
+
+-- src/ifs.rt:106:9
+add-rest : tie.Need-add-rest Inv-loop μ-loop
+add-rest c = omega (arith, if-room 18446744073709551615 _ _ _ _ _ _ _ (c .before .before .before .before .before .try-if .ensures) (c .if1 .left) (c .before .before .before .before .before .before .before .before .before .loop .inv .1) (omega (arith, c .before .before .before .before .before .before .before .before .before .loop .inv .3)))
+
+-- src/ifs.rt:107:9
+add-regions : tie.Need-add-regions Inv-loop μ-loop
+add-regions c = omega (arith, if-room 18446744073709551615 _ _ _ _ _ _ _ (c .before .before .before .before .before .try-if .ensures) (c .if1 .left) (c .before .before .before .before .before .before .before .before .before .loop .inv .1) (omega (arith, c .before .before .before .before .before .before .before .before .before .loop .inv .3)))
+
+-- src/ifs.rt:108:9
+add-k : tie.Need-add-k Inv-loop μ-loop
+add-k c = search needs
+
+-- src/ifs.rt:101:5
+loop-less : tie.Need-loop-less Inv-loop μ-loop
+loop-less c = search needs
+
+-- src/ifs.rt:101:5
+loop-again : tie.Need-loop-again Inv-loop μ-loop
+loop-again c = let l = c .before .before .before .before .before .before .before .before .before .loop in
+    let t = c .before .before .before .before .before .try-if in
+    let r = if-room (length (c .before .before .before .before .before .before .before .before .before .before .before .before .args .rows .now) + c .before .before .before .before .before .before .before .before .before .before .before .before .args .n) _ _ _ _ _ _ _ (t .ensures) (c .if1 .left) (l .inv .0) (omega (arith, l .inv .3)) in
+    let q = if-room 18446744073709551615 _ _ _ _ _ _ _ (t .ensures) (c .if1 .left) (l .inv .1) (omega (arith, l .inv .3)) in (
+      r .0,
+      q .0,
+      omega (arith, q .1, l .inv .2),
+      t .kept .0 ∙ l .inv .3,
+      t .kept .1 .0 ∙ l .inv .4,
+      l .inv .5 ∙ sweep-on ifTried _+_ _ _ _ _ _ _ (c .before .before .before .before .before .before .before .before .loop-test .taken) (l .inv .0) _ _ _ (t .ensures) (c .if1 .left),
+    )
+
+-- src/ifs.rt:94:1
+same-length-3 : tie.Need-same-length-3 Inv-loop μ-loop
+same-length-3 c = search needs
+
+-- src/ifs.rt:94:1
+same-length-4 : tie.Need-same-length-4 Inv-loop μ-loop
+same-length-4 c = search needs
+
+-- src/ifs.rt:94:1
+returns-2 : tie.Need-returns-2 Inv-loop μ-loop
+returns-2 c = sweep-stop ifTried _+_ _ _ _ _ _ _ (c .loop-test .left) ∙ sym (c .before .loop .inv .5)
+
+pub sweep-ifs-spec : {M : Type 1} → statement M
+sweep-ifs-spec =
+    tie.close
+    (tie.spec
+    Inv-loop
+    μ-loop
+    loop-holds
+    try-if-requires
+    same-length
+    same-length-2
+    returns
+    add-rest
+    add-regions
+    add-k
+    loop-less
+    loop-again
+    same-length-3
+    same-length-4
+    returns-2)

@@ -1,0 +1,70 @@
+use Rattle.passes.proofs.Goals.{unlessLater, back-start, back-none, back-ended, back-on}
+use Rattle.passes.specs.Forming.{backFrom}
+use mathlib.Core.Path.{_≡_, sym, _∙_}
+use Prim.Native.Nat.{_-_}
+use borrow.Author.Needs.{needs}
+use Rattle.passes.proofs.loops.last_back.Statement.{statement}
+use Rattle.passes.proofs.loops.last_back.Tie as tie
+use Rattle.passes.proofs.loops.last_back.Reads as reads
+use Rattle.passes.proofs.loops.last_back.Lts as lts
+use Rattle.passes.proofs.loops.later.Reads as later-reads
+use Rattle.passes.proofs.rows.judge_back.Reads as judge-back-reads
+use Rattle.passes.proofs.rows.row_at.Reads as row-at-reads
+
+abbrev Inv-loop : tie.InvT-loop
+Inv-loop rows n i m d last₀ j₀ last j = backFrom n m d rows i (n - i) ≡ unlessLater n last (backFrom n m d rows j (n - j))
+
+abbrev μ-loop : tie.MeasureT-loop
+μ-loop rows n i m d last₀ j₀ last j = n - j
+
+-- src/loops.rt:41:5
+loop-holds : tie.Need-loop-holds Inv-loop μ-loop
+loop-holds c = back-start _ _
+
+-- src/loops.rt:42:28
+row-at-requires : tie.Need-row-at-requires Inv-loop μ-loop
+row-at-requires c κs = search needs
+
+-- src/loops.rt:42:13
+judge-back-requires : tie.Need-judge-back-requires Inv-loop μ-loop
+judge-back-requires c κs = search needs
+
+-- src/loops.rt:44:13
+returns : tie.Need-returns Inv-loop μ-loop
+returns c = back-ended _ _ _ _ _ _ (c .before .before .before .loop-test .taken) _ (c .before .before .row-at .ensures) _ (c .before .judge-back .ensures) (c .if1 .taken) ∙ sym (c .before .before .before .before .loop .inv)
+
+-- src/loops.rt:46:9
+later-requires : tie.Need-later-requires Inv-loop μ-loop
+later-requires c κs = search needs
+
+-- src/loops.rt:47:9
+add-j : tie.Need-add-j Inv-loop μ-loop
+add-j c = search needs
+
+-- src/loops.rt:41:5
+loop-less : tie.Need-loop-less Inv-loop μ-loop
+loop-less c = search needs
+
+-- src/loops.rt:41:5
+loop-again : tie.Need-loop-again Inv-loop μ-loop
+loop-again c = c .before .before .before .before .before .loop .inv ∙ back-on _ _ _ _ _ _ (c .before .before .before .before .loop-test .taken) _ (c .before .before .before .row-at .ensures) _ (c .before .before .judge-back .ensures) (c .before .if1 .left) _ (c .later .ensures)
+
+-- src/loops.rt:36:1
+returns-2 : tie.Need-returns-2 Inv-loop μ-loop
+returns-2 c = back-none _ _ _ _ _ _ (c .loop-test .left) ∙ sym (c .before .loop .inv)
+
+pub last-back-spec : {M : Type 1} → statement M
+last-back-spec =
+    tie.close
+    (tie.spec
+    Inv-loop
+    μ-loop
+    loop-holds
+    row-at-requires
+    judge-back-requires
+    returns
+    later-requires
+    add-j
+    loop-less
+    loop-again
+    returns-2)

@@ -1,0 +1,14 @@
+use Rattle.passes.specs.Rows.{kindOf}
+use mathlib.Core.Path.{refl}
+use Rattle.passes.proofs.rows.kind_of.Statement.{statement}
+use Rattle.passes.proofs.rows.kind_of.Tie as tie
+use Rattle.passes.proofs.rows.kind_of.Reads as reads
+use Rattle.passes.proofs.rows.kind_of.Lts as lts
+
+-- src/rows.rt:23:1
+returns : tie.Need-returns
+unfolding kindOf
+returns c = refl
+
+pub kind-of-spec : {M : Type 1} → statement M
+kind-of-spec = tie.close (tie.spec returns)

@@ -1,0 +1,29 @@
+use Rattle.passes.specs.Tests.{at}
+use lib.ListN.{List·getD-eq-default}
+use mathlib.Core.Path.{refl, sym}
+use borrow.Author.Needs.{needs}
+use Rattle.passes.proofs.rows.row_at.Statement.{statement}
+use Rattle.passes.proofs.rows.row_at.Tie as tie
+use Rattle.passes.proofs.rows.row_at.Reads as reads
+use Rattle.passes.proofs.rows.row_at.Lts as lts
+
+-- src/rows.rt:18:16
+mul-result : tie.Need-mul-result
+mul-result c = search needs
+
+-- src/rows.rt:18:16
+shared-slice-read-result : tie.Need-shared-slice-read-result
+shared-slice-read-result c = search needs
+
+-- src/rows.rt:18:9
+returns : tie.Need-returns
+unfolding at
+returns c = refl
+
+-- src/rows.rt:14:1
+returns-2 : tie.Need-returns-2
+unfolding at
+returns-2 c = sym (List·getD-eq-default (c .before .args .rows .now) 0 (c .if1 .left))
+
+pub row-at-spec : {M : Type 1} → statement M
+row-at-spec = tie.close (tie.spec mul-result shared-slice-read-result returns returns-2)
