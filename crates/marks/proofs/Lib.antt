@@ -1,0 +1,7 @@
+pub mod Finding
+pub mod Visiting
+pub mod Labelling
+pub mod Jumping
+pub mod Saving
+pub mod Rooting
+pub mod Unique

@@ -1,0 +1,125 @@
+-- A statement is a save by the definition where its record says so: a Store whose value's tree is a Use of a callee-saved register's version 0, and
+-- whose address has an offset.
+use mathlib.Core.Path.{_≡_, refl, sym, ap, _∙_}
+use mathlib.Core.Bool.{Bool, true, false, not, cond, _&&_, _||_}
+use mathlib.Core.List.{List, [], _∷_}
+use Prim.Native.Nat.{ℕ, zero, suc, _%_, _≤_, _<_}
+use native.Mathlib.Decide.{ℕ-discrete}
+use native.Mathlib.Omega.{arith}
+use lib.Dec.{eqb, ltb}
+use lib.ListN.{length, length-append, List·getD-append, List·getD-eq-default}
+use lib.Seq.{getD-at}
+use borrow.Author.Tests.{ltb-true, ltb-false, eq-eqb, ne-eqb, lt-ltb, le-ltb}
+use Rattle.definition.specs.Edition.{Edition, expressions}
+use Rattle.definition.specs.Contents.{size, exprWord, stmtWord}
+use Rattle.definition.specs.Owners.{stmtKind, stmtField}
+use Rattle.definition.specs.Ssa.{Expr}
+use Rattle.definition.specs.Ssa.Expr.{Opaque}
+use Rattle.definition.specs.Read.{treeAt, tree, trees, allTrees, kindAt, marked}
+use Rattle.definition.specs.Offsets.{Known, stackOff}
+use Rattle.definition.specs.Registers.{calleeSaved}
+use Rattle.definition.specs.Lower.{isSaved, saves}
+use Rattle.definition.specs.Blocks.{isSave}
+use Rattle.definition.proofs.Bools.{by-test}
+use Rattle.reads.proofs.Visits.{dead-is}
+use Rattle.marks.specs.Reading.{savedUse, savedAt}
+
+-- ---- is an expression a callee-saved register's entry value
+module _ (f : List ℕ) (n m : ℕ) (is : m ≡ size f expressions) where
+  pub saved-past : m ≤ n → false ≡ savedAt f n
+  unfolding savedAt
+  saved-past h = rw (← is, le-ltb n m h)
+
+  module _ (here : n < m) (g : ℕ) (tag : g ≡ exprWord f n 0) where
+    pub saved-other : (g ≡ 2 → ⊥) → false ≡ savedAt f n
+    unfolding savedAt savedUse
+    saved-other h = rw (← is, lt-ltb n m here, ← tag, ne-eqb g 2 h)
+
+    module _ (used : g ≡ 2) (v : ℕ) (ver : v ≡ exprWord f n 2) where
+      pub saved-later : (v ≡ 0 → ⊥) → false ≡ savedAt f n
+      unfolding savedAt savedUse
+      saved-later h = rw (← is, lt-ltb n m here, ← tag, eq-eqb g 2 used, ← ver, ne-eqb v 0 h)
+
+      pub saved-is : (r : ℕ) (b : Bool) → v ≡ 0 → r ≡ exprWord f n 1 → b ≡ calleeSaved r → b ≡ savedAt f n
+      unfolding savedAt savedUse
+      saved-is r b h e p = p ∙ rw (← is, lt-ltb n m here, ← tag, eq-eqb g 2 used, ← ver, eq-eqb v 0 h, e)
+
+-- ---- the trees
+module _ (E : Edition) (f : List ℕ) where
+  saved-node : (t : List Expr) (n : ℕ) → isSaved (tree E f t n) ≡ savedUse f n
+  unfolding isSaved tree savedUse
+  saved-node t n = go (ℕ-discrete (exprWord f n 0) 1) (ℕ-discrete (exprWord f n 0) 2) (ℕ-discrete (exprWord f n 0) 3) (ℕ-discrete (exprWord f n 0) 4) (ℕ-discrete (exprWord f n 0) 5)
+    where
+      go : Dec (exprWord f n 0 ≡ 1) → Dec (exprWord f n 0 ≡ 2) → Dec (exprWord f n 0 ≡ 3) → Dec (exprWord f n 0 ≡ 4) → Dec (exprWord f n 0 ≡ 5) → isSaved (tree E f t n) ≡ savedUse f n
+      go (yes e) b c d g = rw e
+      go (no a) (yes e) c d g = rw e
+      go (no a) (no b) (yes e) d g = rw e
+      go (no a) (no b) (no c) (yes e) g = rw e
+      go (no a) (no b) (no c) (no d) (yes e) = rw e
+      go (no a) (no b) (no c) (no d) (no g) =
+          rw (ne-eqb (exprWord f n 0) 1 a, ne-eqb (exprWord f n 0) 2 b, ne-eqb (exprWord f n 0) 3 c, ne-eqb (exprWord f n 0) 4 d, ne-eqb (exprWord f n 0) 5 g)
+
+  trees-long : (n : ℕ) → length (trees E f n) ≡ n
+  unfolding trees
+  trees-long zero = refl
+  trees-long (suc n) = omega (arith, length-append (trees E f n) (tree E f (trees E f n) n ∷ []), trees-long n)
+
+  no-tree : isSaved (Opaque []) ≡ false
+  unfolding isSaved
+  no-tree = refl
+
+  saved-below : (n i : ℕ) → i < n → isSaved (treeAt (trees E f n) i) ≡ savedUse f i
+  unfolding trees
+  saved-below zero i h = absurd (omega arith)
+  saved-below (suc n) i h =
+      let t = trees E f n in
+      let l = trees-long n in
+      let below = saved-below n i in
+      by-test (ltb i n)
+      (λ e. let b = ltb-true i n e in ap isSaved (List·getD-append t (tree E f t n ∷ []) (Opaque []) i (omega arith)) ∙ below b)
+      (λ e. let q : i ≡ n = omega (arith, ltb-false i n e) in ap isSaved (getD-at t (tree E f t n) [] (Opaque []) i (l ∙ sym q)) ∙ saved-node t n ∙ ap (savedUse f) (sym q))
+
+  saved-tree : (n : ℕ) → isSaved (treeAt (allTrees E f) n) ≡ savedAt f n
+  unfolding allTrees savedAt
+  saved-tree n =
+      let m = size f expressions in
+      by-test (ltb n m)
+      (λ e. rw e (saved-below m n (ltb-true n m e)))
+      (λ e. rw e (ap isSaved (List·getD-eq-default (trees E f m) (Opaque []) (omega (arith, trees-long m, ltb-false n m e))) ∙ no-tree))
+
+  -- ---- statements
+  save-is : (k : List Known) (i : ℕ) → isSave k (kindAt E f (allTrees E f) i)
+      ≡ cond (eqb (stmtKind f i) 2) (savedAt f (stmtField f i 2) && not (eqb (stackOff k (treeAt (allTrees E f) (stmtField f i 1))) 0)) false
+  unfolding isSave saves kindAt
+  save-is k i =
+      go (ℕ-discrete (stmtKind f i) 1) (ℕ-discrete (stmtKind f i) 2) (ℕ-discrete (stmtKind f i) 3) (ℕ-discrete (stmtKind f i) 4) (ℕ-discrete (stmtKind f i) 5) (ℕ-discrete (stmtKind f i) 6)
+    where
+      go : Dec (stmtKind f i ≡ 1) → Dec (stmtKind f i ≡ 2) → Dec (stmtKind f i ≡ 3) → Dec (stmtKind f i ≡ 4) → Dec (stmtKind f i ≡ 5) → Dec (stmtKind f i ≡ 6)
+          → isSave k (kindAt E f (allTrees E f) i)
+          ≡ cond (eqb (stmtKind f i) 2) (savedAt f (stmtField f i 2) && not (eqb (stackOff k (treeAt (allTrees E f) (stmtField f i 1))) 0)) false
+      go (yes e) b c d g h = rw e
+      go (no a) (yes e) c d g h = rw e (ap (λ (b : Bool). b && not (eqb (stackOff k (treeAt (allTrees E f) (stmtField f i 1))) 0)) (saved-tree (stmtField f i 2)))
+      go (no a) (no b) (yes e) d g h = rw e
+      go (no a) (no b) (no c) (yes e) g h = rw e
+      go (no a) (no b) (no c) (no d) (yes e) h = rw e
+      go (no a) (no b) (no c) (no d) (no g) (yes e) = rw e
+      go (no a) (no b) (no c) (no d) (no g) (no h) =
+          rw (ne-eqb (stmtKind f i) 1 a, ne-eqb (stmtKind f i) 2 b, ne-eqb (stmtKind f i) 3 c, ne-eqb (stmtKind f i) 4 d, ne-eqb (stmtKind f i) 5 g, ne-eqb (stmtKind f i) 6 h)
+
+  module _ (k : List Known) (i g : ℕ) (kind : g ≡ stmtKind f i) where
+    pub save-other : (g ≡ 2 → ⊥) → false ≡ isSave k (kindAt E f (allTrees E f) i)
+    save-other h = sym (save-is k i ∙ rw (← kind, ne-eqb g 2 h))
+
+    module _ (store : g ≡ 2) (x : ℕ) (b : Bool) (value : x ≡ stmtField f i 2) (says : b ≡ savedAt f x) where
+      pub save-none : b ≡ false → false ≡ isSave k (kindAt E f (allTrees E f) i)
+      save-none h = sym (save-is k i ∙ rw (← kind, eq-eqb g 2 store, ← value, sym says ∙ h))
+
+      pub save-there : (a o : ℕ) → b ≡ true → a ≡ stmtField f i 1 → o ≡ stackOff k (treeAt (allTrees E f) a) → not (eqb o 0) ≡ isSave k (kindAt E f (allTrees E f) i)
+      save-there a o h e p = sym (save-is k i ∙ rw (← kind, eq-eqb g 2 store, ← value, sym says ∙ h, ← e, ← p))
+
+-- ---- dead, or a save
+pub over-dead : (f : List ℕ) (i w : ℕ) (s : Bool) → w ≡ stmtWord f i 2 → w % 2 ≡ 1 → true ≡ (marked f i 1 || s)
+over-dead f i w s e h = rw (sym (dead-is f i w e) ∙ eq-eqb (w % 2) 1 h)
+
+pub over-save : (f : List ℕ) (i w : ℕ) (r s : Bool) → w ≡ stmtWord f i 2 → (w % 2 ≡ 1 → ⊥) → r ≡ s → r ≡ (marked f i 1 || s)
+over-save f i w r s e h p = p ∙ rw (sym (dead-is f i w e) ∙ ne-eqb (w % 2) 1 h)

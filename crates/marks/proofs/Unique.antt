@@ -1,0 +1,23 @@
+-- Each public contract of this crate says by an equation what comes out, so no second outcome meets it. Where it holds for every edition, one is enough.
+use mathlib.Core.Path.{_≡_, refl, sym, _∙_}
+use mathlib.Core.List.{List}
+use Prim.Native.Nat.{ℕ}
+use Rattle.definition.specs.Edition.{Edition, edition1}
+use Rattle.definition.specs.Contents.{text}
+use Rattle.definition.specs.Read.{read}
+use Rattle.definition.specs.Offsets.{Known, look}
+use Rattle.definition.specs.Classes.{find, classes}
+use Rattle.values.specs.Keys.{keyOf, keyed}
+use Rattle.values.specs.Tables.{numberOf, table}
+use Rattle.marks.specs.Labels.{blockOf, Labels}
+use Rattle.marks.specs.Reading.{ReadRoots}
+
+pub block-of : (f : List ℕ) (a r s : ℕ) → r ≡ blockOf f a → s ≡ blockOf f a → r ≡ s
+block-of f a r s p q = p ∙ sym q
+
+pub labels : (f : List ℕ) (n : ℕ) (t u : List ℕ) → Labels f n t → Labels f n u → t ≡ u
+labels f n t u p q = p edition1 ∙ sym (q edition1)
+
+pub read-roots : (E : Edition) (k : List Known) (f : List ℕ) (n : ℕ) (offsets roots t u : List ℕ) → offsets ≡ table f n (look k)
+    → roots ≡ table f n (λ v. numberOf (keyed f n) (keyOf (find (classes (read E f)) v))) → ReadRoots f (text E) n offsets roots t → ReadRoots f (text E) n offsets roots u → t ≡ u
+read-roots E k f n offsets roots t u a b p q = p E k refl a b ∙ sym (q E k refl a b)

@@ -1,0 +1,3 @@
+// What lowering asks beside names and places: which blocks have a label, and which classes are really read.
+pub mod labels;
+pub mod roots;
