@@ -115,12 +115,14 @@ zeros-on R N n m h z =
     ap (λ (x : ℕ). drop x R) (sym s) ∙ sym (drop-drop (m - n) n R) ∙ ap (drop (m - n)) z ∙ drop-zeros (m - n) (N - n) ∙ ap (λ (x : ℕ). replicate x 0) t
 
 -- the rows kept, the zeros of those dropped, and the zeros behind
+pad-on : (ws D : List ℕ) (a b c : ℕ) → a + b ≡ c → D ≡ replicate b 0 → ws ++ (replicate a 0 ++ D) ≡ ws ++ replicate c 0
+pad-on ws D a b c e d =
+    ap (λ (z : List ℕ). ws ++ (replicate a 0 ++ z)) d
+    ∙ ap (λ (z : List ℕ). ws ++ z) (replicate-append-replicate a b 0 ∙ ap (λ (x : ℕ). replicate x 0) e)
+
 all-clean : (ws D : List ℕ) (y m N : ℕ) → y ≡ m → length ws ≤ m → m ≤ N → D ≡ replicate (N - m) 0 → ws ++ (replicate (y - length ws) 0 ++ D) ≡ padded N ws
 unfolding padded
-all-clean ws D y m N e h k d =
-    let u : y - length ws + (N - m) ≡ N - length ws = omega arith in
-    ap (λ (z : List ℕ). ws ++ (replicate (y - length ws) 0 ++ z)) d
-    ∙ ap (λ (z : List ℕ). ws ++ z) (replicate-append-replicate (y - length ws) (N - m) 0 ∙ ap (λ (x : ℕ). replicate x 0) u)
+all-clean ws D y m N e h k d = pad-on ws D (y - length ws) (N - m) (N - length ws) (omega arith) d
 
 -- ---- the three passes, one behind the other
 -- the listing of the lines of the first e rows of Z, with zeros behind them where zeros stood behind the first n rows of R

@@ -1,14 +1,14 @@
 -- A row is a line of the passes as one number: its kind, its indent, the name it bears or aims at, and the lowered line that it comes from.
 use mathlib.Core.Bool.{cond}
 use mathlib.Core.List.{List, map}
-use Prim.Native.Nat.{ℕ, _+_, _*_, _/_, _%_}
+use Prim.Native.Nat.{ℕ, _/_, _%_}
 use lib.Dec.{eqb}
 use lib.ListN.{getD}
 use Rattle.definition.specs.Tokens.{Token, Line}
 use Rattle.definition.specs.Negate.{openTokens, doTokens, whileTokens}
 use Rattle.definition.specs.Passes.{closer}
 
--- the kinds
+-- the kinds; 4 is a plain line
 abbrev pub LABEL : ℕ
 LABEL = 1
 
@@ -17,9 +17,6 @@ COND = 2
 
 abbrev pub JUMP : ℕ
 JUMP = 3
-
-abbrev pub PLAIN : ℕ
-PLAIN = 4
 
 abbrev pub IF-OPEN : ℕ
 IF-OPEN = 5
@@ -45,9 +42,6 @@ nameOf w = w / 65536 % 16777216
 
 unfoldable pub originOf : ℕ → ℕ
 originOf w = w / 1099511627776
-
-unfoldable pub row : ℕ → ℕ → ℕ → ℕ → ℕ
-row k n m o = k + 16 * n + 65536 * m + 1099511627776 * o
 
 -- the tokens of a row of kind k, of those of its lowered line
 unfoldable pub toksOf : ℕ → List Token → List Token

@@ -1,0 +1,103 @@
+-- Each step's record opens to what its callees ask, and their answers together are the record that it leaves.
+use mathlib.Core.Path.{_≡_, sym, ap, subst, _∙_}
+use mathlib.Core.List.{List}
+use Prim.Native.Nat.{ℕ, _≤_, _<_}
+use native.Mathlib.Omega.{arith}
+use lib.ListN.{length, replicate, length-replicate}
+use Rattle.definition.specs.Edition.{Edition}
+use Rattle.definition.specs.Read.{read}
+use Rattle.definition.specs.Classes.{find, classes}
+use Rattle.values.specs.Keys.{keyOf, keyed}
+use Rattle.values.specs.Tables.{numberOf, numbered, table}
+use Rattle.values.specs.Chains.{Emptied}
+use Rattle.values.proofs.Tables.{numbered-from}
+use Rattle.classes.specs.Given.{Given}
+use Rattle.reads.specs.Orders.{Ordered, Ready}
+use Rattle.reads.specs.Counts.{lastReader, LiveReads, PhiReads, Numbers, Runs}
+use Rattle.reads.specs.Loads.{Loads}
+use Rattle.reads.proofs.Visits.{ordered-runs}
+use Rattle.inline.specs.Placing.{placeOf, Told}
+use Rattle.inline.proofs.Forgetting.{in-place}
+use Rattle.names.specs.Given.{Numbered, EntryRead, NamesAll}
+use Rattle.analyses.specs.Tables.{Unnumbered, Valued, Before, ReadAs, Shared, Named}
+
+-- zeros of some length are zeros of their own
+zeros : (l : List ℕ) (n : ℕ) → l ≡ replicate n 0 → l ≡ replicate (length l) 0
+zeros l n p = p ∙ ap (λ (k : ℕ). replicate k 0) (sym (ap length p ∙ length-replicate n 0))
+
+-- ---- numbers of values
+pub chains-fit : (f ks ns heads next after : List ℕ) → Unnumbered f ks ns heads next → length after ≡ length ks
+    → (length ns ≡ length after) × (length after ≤ length next) × (length after < 4294967296) × (0 < length heads)
+chains-fit f ks ns heads next after u e = (u .as-numbers ∙ sym e, omega (arith, u .as-next), omega (arith, u .few), u .chains)
+
+pub all-valued : (f : List ℕ) (n h k : ℕ) (ks ns heads next : List ℕ) → ks ≡ keyed f n → Emptied ks ns heads next h k → Valued f n ks ns heads next
+all-valued f n h k ks ns heads next p e = record {
+  keys = p;
+  numbers = numbered-from f n ks ns p (e .numbers);
+  no-heads = zeros heads h (e .no-heads);
+  no-next = zeros next k (e .no-next);
+}
+
+-- ---- reads
+module _ (f ns order starts loads live phi readers : List ℕ) (b : Before f ns order starts loads live phi readers) where
+  pub ready : Ready f order starts
+  ready = record { own = b .own; clear = b .no-order; cleared = b .no-starts; room = b .nodes; small = b .small; long = b .stmts }
+
+  pub by-numbers : (tab : List ℕ) → tab ≡ replicate (length ns) 0 → Numbers f ns tab
+  by-numbers tab z = record { own = b .own; are = b .numbers; room = b .room; clear = z }
+
+  module _ (order′ starts′ : List ℕ) (o : Ordered f (length order) (length starts) order′ starts′) (p : length order′ ≡ length order) (q : length starts′ ≡ length starts) where
+    pub runs : Runs f order′ starts′
+    runs = ordered-runs f order starts order′ starts′ o p q (b .stmts)
+
+    pub all-read : (loads′ live′ phi′ readers′ : List ℕ) → Loads f (length loads) loads′ → length loads′ ≡ length loads
+        → LiveReads f (length ns) live′ → PhiReads f (length ns) phi′ → readers′ ≡ table f (length ns) (lastReader f)
+        → ReadAs f (length ns) order′ starts′ loads′ live′ phi′ readers′
+    all-read loads′ live′ phi′ readers′ l e t w r = record {
+      flat = record { nodes = runs .nodes; begins = runs .begins };
+      loaded = subst (λ (k : ℕ). Loads f k loads′) (sym e) l;
+      times = t;
+      flows = w;
+      last = r;
+    }
+
+-- ---- variables
+module _ (f ks ns order starts loads live phi readers : List ℕ) (s : Shared f ks ns order starts loads live phi readers) where
+  pub for-classes : (n : ℕ) → n ≡ length ns → Given f ks ns n
+  for-classes n e = record {
+    whole = s .own;
+    keys = s .keys ∙ ap (keyed f) (sym e);
+    numbers = s .numbers ∙ ap (numbered f) (sym e);
+    room = omega (arith, s .room);
+    few = omega (arith, s .few);
+  }
+
+  pub for-inline : Told f ns live phi readers loads
+  for-inline = record {
+    own = s .own;
+    room = s .room;
+    number = s .numbers;
+    times = s .reading .times;
+    flows = s .reading .flows;
+    reader = s .reading .last;
+    width = length loads;
+    loaded = s .reading .loaded;
+  }
+
+  pub for-names : Numbered f ns
+  for-names = record { own = s .own; are = s .numbers; room = s .room }
+
+pub all-named : (f : List ℕ) (m n : ℕ) (roots places names seen entry : List ℕ) → m ≡ n
+    → ((E : Edition) → roots ≡ table f m (λ v. numberOf (keyed f m) (keyOf (find (classes (read E f)) v))))
+    → ((E : Edition) → places ≡ table f n (placeOf E f)) → EntryRead f n entry → NamesAll f n roots places entry names seen
+    → Named f n roots places names seen entry
+all-named f m n roots places names seen entry e r p t a =
+    let r′ : (E : Edition) → roots ≡ table f n (λ v. numberOf (keyed f n) (keyOf (find (classes (read E f)) v))) =
+    λ E. r E ∙ ap (λ (k : ℕ). table f k (λ v. numberOf (keyed f k) (keyOf (find (classes (read E f)) v)))) e in
+    record {
+      rooted = r′;
+      placed = p;
+      named = λ E. a .says E (placeOf E f) (record { rooted = r′ E; placed = p E; away = in-place E f; entered = t .says E });
+      cleared = a .cleared;
+      entered = t;
+    }
