@@ -1,0 +1,5 @@
+pub mod Trims
+pub mod Ranges
+pub mod Clips
+pub mod Emits
+pub mod Unique

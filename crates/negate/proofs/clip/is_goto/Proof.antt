@@ -1,0 +1,28 @@
+use Rattle.negate.proofs.Clips.{goto-same}
+use borrow.Author.Needs.{needs}
+use Rattle.negate.proofs.clip.is_goto.Statement.{statement}
+use Rattle.negate.proofs.clip.is_goto.Tie as tie
+use Rattle.negate.proofs.clip.is_goto.Reads as reads
+use Rattle.negate.proofs.clip.is_goto.Lts as lts
+use Rattle.sheet.proofs.tokens.place.Reads as place-reads
+use Rattle.sheet.proofs.tokens.token_is.Reads as token-is-reads
+
+-- src/clip.rt:33:28
+place-requires : tie.Need-place-requires
+place-requires c κs = search needs
+
+-- src/clip.rt:33:58
+slice-aggregate-token-is : tie.Need-slice-aggregate-token-is
+slice-aggregate-token-is c = search needs
+
+-- src/clip.rt:33:5
+token-is-requires : tie.Need-token-is-requires
+token-is-requires c κs = search needs
+
+-- src/clip.rt:30:1
+returns : tie.Need-returns
+returns c = goto-same _ _ _ _ _ (c .before .before .place .ensures) (c .token-is .ensures)
+
+pub is-goto-spec : {M : Type 1} → statement M
+is-goto-spec =
+    tie.close (tie.spec place-requires slice-aggregate-token-is token-is-requires returns)

@@ -1,0 +1,23 @@
+use Rattle.negate.proofs.Clips.{end-same}
+use borrow.Author.Needs.{needs}
+use Rattle.negate.proofs.clip.token_end.Statement.{statement}
+use Rattle.negate.proofs.clip.token_end.Tie as tie
+use Rattle.negate.proofs.clip.token_end.Reads as reads
+use Rattle.negate.proofs.clip.token_end.Lts as lts
+use Rattle.sheet.proofs.tokens.end_at.Reads as end-at-reads
+use Rattle.sheet.proofs.tokens.place.Reads as place-reads
+
+-- src/clip.rt:87:20
+place-requires : tie.Need-place-requires
+place-requires c κs = search needs
+
+-- src/clip.rt:87:5
+end-at-requires : tie.Need-end-at-requires
+end-at-requires c κs = search needs
+
+-- src/clip.rt:84:1
+returns : tie.Need-returns
+returns c = end-same _ _ _ (c .before .place .ensures) _ (c .end-at .ensures)
+
+pub token-end-spec : {M : Type 1} → statement M
+token-end-spec = tie.close (tie.spec place-requires end-at-requires returns)

@@ -1,0 +1,4 @@
+// The heads and ends of regions.
+pub mod clip;
+pub mod copies;
+pub mod heads;

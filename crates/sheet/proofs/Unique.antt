@@ -1,0 +1,50 @@
+-- Each contract of this crate is an equation for the answer, so no second answer meets it; two places that `place` may give read the same.
+use mathlib.Core.Path.{_≡_, sym, _∙_}
+use mathlib.Core.Bool.{Bool}
+use mathlib.Core.List.{List}
+use Prim.Native.Nat.{ℕ}
+use Rattle.definition.specs.Texts.{same, isEmpty, begins, contains}
+use Rattle.definition.specs.Tokens.{tok}
+use Rattle.definition.specs.Sorts.{isTok}
+use Rattle.text.proofs.Unique.{equation}
+use Rattle.sheet.specs.Buffers.{numberAt, kindAt, startAt, endAt, tokenAt, firstOf, lastOf}
+use Rattle.sheet.specs.Ranges.{least as leastOf, between, SamePlace}
+
+pub number-at : (l : List ℕ) (i r s : ℕ) → r ≡ numberAt l i → s ≡ numberAt l i → r ≡ s
+number-at l i = equation (numberAt l i)
+
+pub kind-at : (ks : List ℕ) (j r s : ℕ) → r ≡ kindAt ks j → s ≡ kindAt ks j → r ≡ s
+kind-at ks j = equation (kindAt ks j)
+
+pub start-at : (ks : List ℕ) (j r s : ℕ) → r ≡ startAt ks j → s ≡ startAt ks j → r ≡ s
+start-at ks j = equation (startAt ks j)
+
+pub end-at : (ks : List ℕ) (j r s : ℕ) → r ≡ endAt ks j → s ≡ endAt ks j → r ≡ s
+end-at ks j = equation (endAt ks j)
+
+pub token-is : (ks t : List ℕ) (j k : ℕ) (w : List ℕ) (r s : Bool) → r ≡ isTok (tok k w) (tokenAt ks t j) → s ≡ isTok (tok k w) (tokenAt ks t j) → r ≡ s
+token-is ks t j k w = equation (isTok (tok k w) (tokenAt ks t j))
+
+pub place : (ks : List ℕ) (p r s : ℕ) → SamePlace ks r p → SamePlace ks s p → SamePlace ks r s
+place ks p r s a b = record { number = a .number ∙ sym (b .number); start = a .start ∙ sym (b .start) }
+
+pub first-of : (l : List ℕ) (i r s : ℕ) → r ≡ firstOf l i → s ≡ firstOf l i → r ≡ s
+first-of l i = equation (firstOf l i)
+
+pub last-of : (l : List ℕ) (i r s : ℕ) → r ≡ lastOf l i → s ≡ lastOf l i → r ≡ s
+last-of l i = equation (lastOf l i)
+
+pub least : (a b r s : ℕ) → r ≡ leastOf a b → s ≡ leastOf a b → r ≡ s
+least a b = equation (leastOf a b)
+
+pub is-between : (t : List ℕ) (f e : ℕ) (w : List ℕ) (r s : Bool) → r ≡ same (between t f e) w → s ≡ same (between t f e) w → r ≡ s
+is-between t f e w = equation (same (between t f e) w)
+
+pub begins-between : (t : List ℕ) (f e : ℕ) (w : List ℕ) (r s : Bool) → r ≡ begins w (between t f e) → s ≡ begins w (between t f e) → r ≡ s
+begins-between t f e w = equation (begins w (between t f e))
+
+pub none-between : (t : List ℕ) (f e : ℕ) (r s : Bool) → r ≡ isEmpty (between t f e) → s ≡ isEmpty (between t f e) → r ≡ s
+none-between t f e = equation (isEmpty (between t f e))
+
+pub contains-between : (t : List ℕ) (f e : ℕ) (w : List ℕ) (r s : Bool) → r ≡ contains w (between t f e) → s ≡ contains w (between t f e) → r ≡ s
+contains-between t f e w = equation (contains w (between t f e))

@@ -1,0 +1,18 @@
+use Rattle.sheet.proofs.Reading.{end-is}
+use borrow.Author.Needs.{needs}
+use Rattle.sheet.proofs.tokens.end_at.Statement.{statement}
+use Rattle.sheet.proofs.tokens.end_at.Tie as tie
+use Rattle.sheet.proofs.tokens.end_at.Reads as reads
+use Rattle.sheet.proofs.tokens.end_at.Lts as lts
+use Rattle.sheet.proofs.tokens.number_at.Reads as number-at-reads
+
+-- src/tokens.rt:29:6
+number-at-requires : tie.Need-number-at-requires
+number-at-requires c κs = search needs
+
+-- src/tokens.rt:26:1
+returns : tie.Need-returns
+returns c = end-is _ _ _ (c .number-at .ensures)
+
+pub end-at-spec : {M : Type 1} → statement M
+end-at-spec = tie.close (tie.spec number-at-requires returns)

@@ -1,0 +1,22 @@
+use Rattle.sheet.proofs.Reading.{kind-is}
+use borrow.Author.Needs.{needs}
+use Rattle.sheet.proofs.tokens.kind_at.Statement.{statement}
+use Rattle.sheet.proofs.tokens.kind_at.Tie as tie
+use Rattle.sheet.proofs.tokens.kind_at.Reads as reads
+use Rattle.sheet.proofs.tokens.kind_at.Lts as lts
+use Rattle.sheet.proofs.tokens.number_at.Reads as number-at-reads
+
+-- src/tokens.rt:23:6
+number-at-requires : tie.Need-number-at-requires
+number-at-requires c κs = search needs
+
+-- src/tokens.rt:23:5
+cast-result : tie.Need-cast-result
+cast-result c = search needs
+
+-- src/tokens.rt:20:1
+returns : tie.Need-returns
+returns c = kind-is _ _ _ (c .number-at .ensures)
+
+pub kind-at-spec : {M : Type 1} → statement M
+kind-at-spec = tie.close (tie.spec number-at-requires cast-result returns)

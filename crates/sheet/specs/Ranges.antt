@@ -1,0 +1,21 @@
+-- A range of a text by its two ends, and two places at which the same token stands.
+use mathlib.Core.Path.{_≡_}
+use mathlib.Core.Bool.{cond}
+use mathlib.Core.List.{List}
+use Prim.Native.Nat.{ℕ, _-_}
+use lib.Dec.{leb}
+use Rattle.definition.specs.Words.{part}
+use Rattle.sheet.specs.Buffers.{numberAt, startAt}
+
+-- the lesser of two numbers
+unfoldable pub least : ℕ → ℕ → ℕ
+least a b = cond (leb a b) a b
+
+-- the bytes from place s to place e
+unfoldable pub between : List ℕ → ℕ → ℕ → List ℕ
+between t s e = part t s (e - s)
+
+-- what is read of the token at place p is what is read of the token at place q
+pub record SamePlace (ks : List ℕ) (p q : ℕ) : Type 0 where
+  pub number : numberAt ks p ≡ numberAt ks q
+  pub start : startAt ks p ≡ startAt ks q

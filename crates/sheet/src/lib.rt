@@ -1,0 +1,4 @@
+// Lowered lines, read off the room's buffers.
+pub mod lines;
+pub mod ranges;
+pub mod tokens;
