@@ -9,7 +9,7 @@ use Rattle.definition.specs.Lists.{gather, range, sumBelow}
 use Rattle.definition.specs.Contents.{size}
 use Rattle.definition.specs.Owners.{blockPhis, blockStmts, firstPhi, firstStmt, firstInput, firstItem}
 use Rattle.definition.specs.Shape.{owned}
-use Rattle.names.specs.declared.walk.Walk.{Walk}
+use Rattle.names.specs.declared.position.Walk.{Walk}
 use Rattle.names.specs.Walk.{Known, State, state, walked, phiSpots, stmtSpots, blockSpots, spots}
 use Rattle.names.specs.Given.{Went, standing}
 use Rattle.names.proofs.Small.{parts-next, parts-below}

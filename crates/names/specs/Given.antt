@@ -18,7 +18,7 @@ use Rattle.values.specs.declared.places.Places.{Places}
 use Rattle.values.specs.Keys.{keyOf, placesOf, keyed}
 use Rattle.values.specs.Tables.{numberOf, numbered, table}
 use Rattle.reads.specs.Orders.{Ordered}
-use Rattle.names.specs.declared.walk.Walk.{Walk}
+use Rattle.names.specs.declared.position.Walk.{Walk}
 use Rattle.names.specs.Codes.{nameCode}
 use Rattle.names.specs.Walk.{Spot, Known, state, walked}
 

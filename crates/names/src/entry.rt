@@ -1,5 +1,5 @@
 // The values that are really read at entry, and the parameters: the argument registers up to the last of which the entry value is.
-use crate::walk::is_dead;
+use crate::statements::is_dead;
 use records::contents::ARGS;
 use records::contents::STATEMENTS;
 use records::contents::size_of;

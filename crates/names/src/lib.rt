@@ -2,4 +2,7 @@
 pub mod entry;
 mod key;
 pub mod naming;
+mod phis;
+mod position;
+mod statements;
 mod walk;

@@ -18,8 +18,8 @@ use Rattle.definition.specs.Words.{word}
 use Rattle.definition.specs.Contents.{contents, size, blockWord, phiWord, stmtWord, itemWord, exprWord}
 use Rattle.definition.specs.Owners.{stmtKind, stmtField, exprItems, items, firstPhi, firstStmt, firstInput, firstItem}
 use Rattle.definition.specs.Shape.{bit, absent, adjoin, owned, blockShaped, phiShaped, fieldsShaped, itemsShaped, stmtShaped, exprShaped, shaped, refused4}
-use Rattle.shape.specs.declared.shape.Parts.{Parts}
-use Rattle.shape.specs.declared.shape.Parts.the-variants.{Phis, Stmts, Inputs, Items}
+use Rattle.shape.specs.declared.layout.Parts.{Parts}
+use Rattle.shape.specs.declared.layout.Parts.the-variants.{Phis, Stmts, Inputs, Items}
 use Rattle.shape.specs.Shapes.{partsOf, optional, blankTail, tagShaped, Cut}
 
 -- ---- what is owned

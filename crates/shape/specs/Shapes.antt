@@ -9,8 +9,8 @@ use Rattle.definition.specs.Codes.{tConst, tUse, tBin, tUn, tLoad, tOpaque}
 use Rattle.definition.specs.Contents.{offset}
 use Rattle.definition.specs.Owners.{blockPhis, blockStmts, phiInputs, items, firstItem}
 use Rattle.definition.specs.Shape.{bit, absent, byte}
-use Rattle.shape.specs.declared.shape.Parts.{Parts}
-use Rattle.shape.specs.declared.shape.Parts.the-variants.{Phis, Stmts, Inputs, Items}
+use Rattle.shape.specs.declared.layout.Parts.{Parts}
+use Rattle.shape.specs.declared.layout.Parts.the-variants.{Phis, Stmts, Inputs, Items}
 
 -- the bytes of n records of w words, or of n bytes where w is 0
 unfoldable pub bytesIn : ℕ → ℕ → ℕ

@@ -13,31 +13,24 @@ Inv-loop f k₀ k = k ≤ 22
 abbrev μ-loop : tie.MeasureT-loop
 μ-loop f k₀ k = 22 - k
 
--- src/main.rt:12:5
 loop-holds : tie.Need-loop-holds Inv-loop μ-loop
 loop-holds c = omega arith
 
--- src/main.rt:13:23
 mul-print-word : tie.Need-mul-print-word Inv-loop μ-loop
 mul-print-word c = omega arith
 
--- src/main.rt:13:9
 print-word-requires : tie.Need-print-word-requires Inv-loop μ-loop
 print-word-requires c κs = search needs
 
--- src/main.rt:14:9
 add-k : tie.Need-add-k Inv-loop μ-loop
 add-k c = omega arith
 
--- src/main.rt:12:5
 loop-less : tie.Need-loop-less Inv-loop μ-loop
 loop-less c = omega arith
 
--- src/main.rt:12:5
 loop-again : tie.Need-loop-again Inv-loop μ-loop
 loop-again c = omega arith
 
--- src/main.rt:10:1
 returns : tie.Need-returns Inv-loop μ-loop
 returns c = search needs
 

@@ -36,32 +36,25 @@ pass5 c = seen refused5 _ _ _ _ (c .before .before .before .before .before .befo
 pass6 : (c : tie.Else6) → refused6 edition1 (c .before .before .before .before .before .before .before .before .before .before .before .before .before .before .before .before .before .before .before .before .before .args .f .now) ≡ false
 pass6 c = seen refused6 _ _ _ _ (c .before .before .before .before .before .before .before .before .before .before .before .before .before .first .ensures) (c .before .refused6 .ensures) (c .if6 .left)
 
--- src/lib.rt:30:5
 clear-requires : tie.Need-clear-requires
 clear-requires c κs = search needs
 
--- src/lib.rt:32:9
 same-length : tie.Need-same-length
 same-length c = search needs
 
--- src/lib.rt:32:9
 returns : tie.Need-returns
 returns c =
     not-lent _ _ _ (c .before .before .before .clear .ensures) (λ q. omega arith)
 
--- src/lib.rt:34:9
 first-requires : tie.Need-first-requires
 first-requires c κs = search needs
 
--- src/lib.rt:35:8
 refused2-requires : tie.Need-refused2-requires
 refused2-requires c κs = search needs
 
--- src/lib.rt:36:9
 same-length-2 : tie.Need-same-length-2
 same-length-2 c = search needs
 
--- src/lib.rt:36:9
 returns-2 : tie.Need-returns-2
 returns-2 c =
     let t = c .before .before .before .before .before .before .before .before .before .before .args .owners .now in
@@ -71,15 +64,12 @@ returns-2 c =
     answered _ t u u _ e k (untouched (c .before .before .before .before .before .before .before .before .before .before .args .f .now) t u e)
     (by-2 _ (seen refused2 _ _ _ _ (c .before .before .first .ensures) (c .before .refused2 .ensures) (c .if2 .taken)))
 
--- src/lib.rt:38:8
 refused3-requires : tie.Need-refused3-requires
 refused3-requires c κs = search needs
 
--- src/lib.rt:39:9
 same-length-3 : tie.Need-same-length-3
 same-length-3 c = search needs
 
--- src/lib.rt:39:9
 returns-3 : tie.Need-returns-3
 returns-3 c =
     let t = c .before .before .before .before .before .before .before .before .before .before .before .before .args .owners .now in
@@ -89,15 +79,12 @@ returns-3 c =
     answered _ t u u _ e k (untouched (c .before .before .before .before .before .before .before .before .before .before .before .before .args .f .now) t u e)
     (by-3 _ (pass2 (c .before .before)) (seen refused3 _ _ _ _ (c .before .before .before .before .first .ensures) (c .before .refused3 .ensures) (c .if3 .taken)))
 
--- src/lib.rt:41:8
 refused4-requires : tie.Need-refused4-requires
 refused4-requires c κs = search needs
 
--- src/lib.rt:42:9
 same-length-4 : tie.Need-same-length-4
 same-length-4 c = search needs
 
--- src/lib.rt:42:9
 returns-4 : tie.Need-returns-4
 returns-4 c =
     let t = c .before .before .before .before .before .before .before .before .before .before .before .before .before .before .args .owners .now in
@@ -107,16 +94,13 @@ returns-4 c =
     answered _ t u u _ e k (untouched (c .before .before .before .before .before .before .before .before .before .before .before .before .before .before .args .f .now) t u e)
     (by-4 _ (pass2 (c .before .before .before .before)) (pass3 (c .before .before)) (seen refused4 _ _ _ _ (c .before .before .before .before .before .before .first .ensures) (c .before .refused4 .ensures) (c .if4 .taken)))
 
--- src/lib.rt:44:8
 refused5-requires : tie.Need-refused5-requires
 refused5-requires c κs =
     (shape-owned edition1 _ (pass4 (c .before)), (let m = few-expressions _ (pass3 (c .before .before .before)) in omega arith))
 
--- src/lib.rt:45:9
 same-length-5 : tie.Need-same-length-5
 same-length-5 c = search needs
 
--- src/lib.rt:45:9
 returns-5 : tie.Need-returns-5
 returns-5 c =
     let t = c .before .before .before .before .before .before .before .before .before .before .before .before .before .before .before .before .before .before .before .args .owners .now in
@@ -125,16 +109,13 @@ returns-5 c =
     answered _ t u _ _ (c .before .before .before .before .before .before .before .before .before .before .before .before .before .before .before .clear .ensures) k (c .before .before .before .refused5 .ensures .left)
     (by-5 _ (pass2 (c .before .before .before .before .before .before .before .before .before)) (pass3 (c .before .before .before .before .before .before .before)) (pass4 (c .before .before .before .before .before)) (seen refused5 _ _ _ _ (c .before .before .before .before .before .before .before .before .before .before .before .first .ensures) (c .before .before .before .refused5 .ensures .says) (c .if5 .taken)))
 
--- src/lib.rt:47:8
 refused6-requires : tie.Need-refused6-requires
 refused6-requires c κs =
     shape-owned edition1 _ (pass4 (c .before .before .before .before .before))
 
--- src/lib.rt:48:9
 same-length-6 : tie.Need-same-length-6
 same-length-6 c = search needs
 
--- src/lib.rt:48:9
 returns-6 : tie.Need-returns-6
 returns-6 c =
     let t = c .before .before .before .before .before .before .before .before .before .before .before .before .before .before .before .before .before .before .before .before .before .args .owners .now in
@@ -143,11 +124,9 @@ returns-6 c =
     answered _ t u _ _ (c .before .before .before .before .before .before .before .before .before .before .before .before .before .before .before .before .before .clear .ensures) k (c .before .before .before .before .before .refused5 .ensures .left)
     (by-6 _ (pass2 (c .before .before .before .before .before .before .before .before .before .before .before)) (pass3 (c .before .before .before .before .before .before .before .before .before)) (pass4 (c .before .before .before .before .before .before .before)) (pass5 (c .before .before)) (seen refused6 _ _ _ _ (c .before .before .before .before .before .before .before .before .before .before .before .before .before .first .ensures) (c .before .refused6 .ensures) (c .if6 .taken)))
 
--- src/lib.rt:27:1
 same-length-7 : tie.Need-same-length-7
 same-length-7 c = search needs
 
--- src/lib.rt:27:1
 returns-7 : tie.Need-returns-7
 returns-7 c =
     let t = c .before .before .before .before .before .before .before .before .before .before .before .before .before .before .before .before .before .before .before .before .before .args .owners .now in

@@ -5,20 +5,16 @@ use Rattle.probe.proofs.count_of.Tie as tie
 use Rattle.probe.proofs.count_of.Reads as reads
 use Rattle.probe.proofs.count_of.Lts as lts
 
--- src/lib.rt:22:22
 enum-known-w : tie.Need-enum-known-w
 enum-known-w c = search needs
 
--- src/lib.rt:23:26
 enum-told : tie.Need-enum-told
 enum-told c = search needs
 
--- src/lib.rt:18:1
 returns : tie.Need-returns
 unfolding countOf
 returns c = cc
 
--- src/lib.rt:18:1
 returns-2 : tie.Need-returns-2
 unfolding countOf
 returns-2 c = cc

@@ -7,19 +7,15 @@ use Rattle.probe.proofs.sorkhelaw_global.Lts as lts
 use Rattle.probe.proofs.count_of.Reads as count-of-reads
 use Rattle.text.proofs.names.global_name.Reads as global-name-reads
 
--- src/lib.rt:74:14
 global-name-requires : tie.Need-global-name-requires
 global-name-requires c κs = search needs
 
--- src/lib.rt:74:5
 count-of-requires : tie.Need-count-of-requires
 count-of-requires c κs = search needs
 
--- src/lib.rt:70:1
 same-length : tie.Need-same-length
 same-length c = search needs
 
--- src/lib.rt:70:1
 returns : tie.Need-returns
 returns c = counted (c .before .before .before .global-name .ensures) (c .count-of .ensures)
 

@@ -7,19 +7,15 @@ use Rattle.probe.proofs.sorkhelaw_label.Lts as lts
 use Rattle.probe.proofs.count_of.Reads as count-of-reads
 use Rattle.text.proofs.numbers.label.Reads as label-reads
 
--- src/lib.rt:45:14
 label-requires : tie.Need-label-requires
 label-requires c κs = search needs
 
--- src/lib.rt:45:5
 count-of-requires : tie.Need-count-of-requires
 count-of-requires c κs = search needs
 
--- src/lib.rt:41:1
 same-length : tie.Need-same-length
 same-length c = search needs
 
--- src/lib.rt:41:1
 returns : tie.Need-returns
 returns c = counted (c .before .before .before .label .ensures) (c .count-of .ensures)
 

@@ -7,19 +7,15 @@ use Rattle.probe.proofs.sorkhelaw_num.Lts as lts
 use Rattle.probe.proofs.count_of.Reads as count-of-reads
 use Rattle.text.proofs.numbers.num.Reads as num-reads
 
--- src/lib.rt:31:14
 num-requires : tie.Need-num-requires
 num-requires c κs = search needs
 
--- src/lib.rt:31:5
 count-of-requires : tie.Need-count-of-requires
 count-of-requires c κs = search needs
 
--- src/lib.rt:27:1
 same-length : tie.Need-same-length
 same-length c = search needs
 
--- src/lib.rt:27:1
 returns : tie.Need-returns
 returns c = counted (c .before .before .before .num .ensures) (c .count-of .ensures)
 

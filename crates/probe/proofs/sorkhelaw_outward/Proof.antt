@@ -7,19 +7,15 @@ use Rattle.probe.proofs.sorkhelaw_outward.Lts as lts
 use Rattle.probe.proofs.count_of.Reads as count-of-reads
 use Rattle.text.proofs.numbers.outward.Reads as outward-reads
 
--- src/lib.rt:52:14
 outward-requires : tie.Need-outward-requires
 outward-requires c κs = search needs
 
--- src/lib.rt:52:5
 count-of-requires : tie.Need-count-of-requires
 count-of-requires c κs = search needs
 
--- src/lib.rt:48:1
 same-length : tie.Need-same-length
 same-length c = search needs
 
--- src/lib.rt:48:1
 returns : tie.Need-returns
 returns c = counted (c .before .before .before .outward .ensures) (c .count-of .ensures)
 

@@ -7,19 +7,15 @@ use Rattle.probe.proofs.sorkhelaw_pointer.Lts as lts
 use Rattle.probe.proofs.count_of.Reads as count-of-reads
 use Rattle.text.proofs.numbers.pointer.Reads as pointer-reads
 
--- src/lib.rt:59:14
 pointer-requires : tie.Need-pointer-requires
 pointer-requires c κs = search needs
 
--- src/lib.rt:59:5
 count-of-requires : tie.Need-count-of-requires
 count-of-requires c κs = search needs
 
--- src/lib.rt:55:1
 same-length : tie.Need-same-length
 same-length c = search needs
 
--- src/lib.rt:55:1
 returns : tie.Need-returns
 returns c = counted (c .before .before .before .pointer .ensures) (c .count-of .ensures)
 

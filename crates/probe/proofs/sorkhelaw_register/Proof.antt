@@ -7,19 +7,15 @@ use Rattle.probe.proofs.sorkhelaw_register.Lts as lts
 use Rattle.probe.proofs.count_of.Reads as count-of-reads
 use Rattle.text.proofs.registers.reg_name.Reads as reg-name-reads
 
--- src/lib.rt:66:14
 reg-name-requires : tie.Need-reg-name-requires
 reg-name-requires c κs = search needs
 
--- src/lib.rt:66:5
 count-of-requires : tie.Need-count-of-requires
 count-of-requires c κs = search needs
 
--- src/lib.rt:62:1
 same-length : tie.Need-same-length
 same-length c = search needs
 
--- src/lib.rt:62:1
 returns : tie.Need-returns
 returns c = counted (c .before .before .before .reg-name .ensures) (c .count-of .ensures)
 

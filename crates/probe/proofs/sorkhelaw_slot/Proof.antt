@@ -7,19 +7,15 @@ use Rattle.probe.proofs.sorkhelaw_slot.Lts as lts
 use Rattle.probe.proofs.count_of.Reads as count-of-reads
 use Rattle.text.proofs.numbers.slot.Reads as slot-reads
 
--- src/lib.rt:38:14
 slot-requires : tie.Need-slot-requires
 slot-requires c κs = search needs
 
--- src/lib.rt:38:5
 count-of-requires : tie.Need-count-of-requires
 count-of-requires c κs = search needs
 
--- src/lib.rt:34:1
 same-length : tie.Need-same-length
 same-length c = search needs
 
--- src/lib.rt:34:1
 returns : tie.Need-returns
 returns c = counted (c .before .before .before .slot .ensures) (c .count-of .ensures)
 

@@ -14,43 +14,33 @@ Inv-loop lengths count i₀ i = i ≤ count
 abbrev μ-loop : tie.MeasureT-loop
 μ-loop lengths count i₀ i = count - i
 
--- src/main.rt:38:5
 loop-holds : tie.Need-loop-holds Inv-loop μ-loop
 loop-holds c = omega arith
 
--- src/main.rt:39:48
 cast-word-at : tie.Need-cast-word-at Inv-loop μ-loop
 cast-word-at c = search needs
 
--- src/main.rt:39:43
 mul-word-at : tie.Need-mul-word-at Inv-loop μ-loop
 mul-word-at c = search needs
 
--- src/main.rt:39:19
 word-at-requires : tie.Need-word-at-requires Inv-loop μ-loop
 word-at-requires c κs = search needs
 
--- src/main.rt:39:19
 cast-replay : tie.Need-cast-replay Inv-loop μ-loop
 cast-replay c = search needs
 
--- src/main.rt:39:9
 replay-requires : tie.Need-replay-requires Inv-loop μ-loop
 replay-requires c κs = search needs
 
--- src/main.rt:40:9
 add-i : tie.Need-add-i Inv-loop μ-loop
 add-i c = search needs
 
--- src/main.rt:38:5
 loop-less : tie.Need-loop-less Inv-loop μ-loop
 loop-less c = omega arith
 
--- src/main.rt:38:5
 loop-again : tie.Need-loop-again Inv-loop μ-loop
 loop-again c = omega arith
 
--- src/main.rt:36:1
 returns : tie.Need-returns Inv-loop μ-loop
 returns c = search needs
 

@@ -15,31 +15,24 @@ Inv-loop text from to i₀ t5 i = Opening text from to i
 abbrev μ-loop : tie.MeasureT-loop
 μ-loop text from to i₀ t5 i = to - i
 
--- src/clip.rt:55:5
 loop-holds : tie.Need-loop-holds Inv-loop μ-loop
 loop-holds c = opens-none _ _ _
 
--- src/clip.rt:55:39
 slice-aggregate-begins-between : tie.Need-slice-aggregate-begins-between Inv-loop μ-loop
 slice-aggregate-begins-between c = search needs
 
--- src/clip.rt:55:11
 begins-between-requires : tie.Need-begins-between-requires Inv-loop μ-loop
 begins-between-requires c κs = search needs
 
--- src/clip.rt:56:9
 add-i : tie.Need-add-i Inv-loop μ-loop
 add-i c = let a = c .before .before .before .before .before .args in omega (arith, opens-room (a .text .now) (a .from) (a .to) (c .before .before .before .loop .i) (sym (c .before .begins-between .ensures) ∙ c .if1 .taken))
 
--- src/clip.rt:55:5
 loop-less : tie.Need-loop-less Inv-loop μ-loop
 loop-less c = let a = c .before .before .before .before .before .args in omega (arith, opens-room (a .text .now) (a .from) (a .to) (c .before .before .before .loop .i) (sym (c .before .begins-between .ensures) ∙ c .if1 .taken))
 
--- src/clip.rt:55:5
 loop-again : tie.Need-loop-again Inv-loop μ-loop
 loop-again c = let a = c .before .before .before .before .before .args in opens-turn (a .text .now) (a .from) (a .to) (c .before .before .before .loop .i) (sym (c .before .begins-between .ensures) ∙ c .if1 .taken) (c .before .before .before .loop .inv)
 
--- src/clip.rt:51:1
 returns : tie.Need-returns Inv-loop μ-loop
 returns c = let a = c .before .before .before .before .before .args in opens-end (a .text .now) (a .from) (a .to) (c .before .before .before .loop .i) (sym (c .before .begins-between .ensures) ∙ c .if1 .left) (c .before .before .before .loop .inv)
 

@@ -9,31 +9,24 @@ use Rattle.negate.proofs.clip.before_close.Lts as lts
 use Rattle.sheet.proofs.ranges.is_between.Reads as is-between-reads
 use Rattle.sheet.proofs.ranges.least.Reads as least-reads
 
--- src/clip.rt:65:9
 least-requires : tie.Need-least-requires
 least-requires c κs = search needs
 
--- src/clip.rt:67:9
 returns : tie.Need-returns
 returns c = let a = c .before .before .before .args in close-short (a .text .now) (a .from) (a .to) (c .before .least .result) (c .before .least .ensures) (omega arith)
 
--- src/clip.rt:70:9
 returns-2 : tie.Need-returns-2
 returns-2 c = let a = c .before .before .before .before .args in close-short (a .text .now) (a .from) (a .to) (c .before .before .least .result) (c .before .before .least .ensures) (omega arith)
 
--- src/clip.rt:72:35
 slice-aggregate-is-between : tie.Need-slice-aggregate-is-between
 slice-aggregate-is-between c = search needs
 
--- src/clip.rt:72:8
 is-between-requires : tie.Need-is-between-requires
 is-between-requires c κs = search needs
 
--- src/clip.rt:73:9
 returns-3 : tie.Need-returns-3
 returns-3 c = let a = c .before .before .before .before .before .before .before .args in close-cut (a .text .now) (a .from) (a .to) (c .before .before .before .before .before .least .result) (c .before .before .before .before .before .least .ensures) (omega arith) (sym (c .before .is-between .ensures) ∙ c .if3 .taken)
 
--- src/clip.rt:62:1
 returns-4 : tie.Need-returns-4
 returns-4 c = let a = c .before .before .before .before .before .before .before .args in close-not (a .text .now) (a .from) (a .to) (c .before .before .before .before .before .least .result) (c .before .before .before .before .before .least .ensures) (omega arith) (sym (c .before .is-between .ensures) ∙ c .if3 .left)
 

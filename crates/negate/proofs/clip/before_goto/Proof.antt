@@ -18,31 +18,24 @@ Inv-loop tokens text a n k₀ k = (length (beforeGoto (tokensIn tokens text a n)
 abbrev μ-loop : tie.MeasureT-loop
 μ-loop tokens text a n k₀ k = n - k
 
--- src/clip.rt:41:5
 loop-holds : tie.Need-loop-holds Inv-loop μ-loop
 loop-holds c = (goto-start _ _ _ _, omega arith)
 
--- src/clip.rt:42:12
 is-goto-requires : tie.Need-is-goto-requires Inv-loop μ-loop
 is-goto-requires c κs = search needs
 
--- src/clip.rt:43:13
 returns : tie.Need-returns Inv-loop μ-loop
 returns c = let a = c .before .before .before .before .before .before .args in goto-hit (a .tokens .now) (a .text .now) (a .a) (a .n) (c .before .before .before .loop .k) (c .before .before .before .loop .inv .0) _ (c .before .before .loop-test .taken) (c .before .is-goto .ensures) (c .if1 .taken)
 
--- src/clip.rt:45:9
 add-k : tie.Need-add-k Inv-loop μ-loop
 add-k c = omega arith
 
--- src/clip.rt:41:5
 loop-less : tie.Need-loop-less Inv-loop μ-loop
 loop-less c = omega arith
 
--- src/clip.rt:41:5
 loop-again : tie.Need-loop-again Inv-loop μ-loop
 loop-again c = let a = c .before .before .before .before .before .before .args in (goto-turn (a .tokens .now) (a .text .now) (a .a) (a .n) (c .before .before .before .loop .k) (c .before .before .before .loop .inv .0) _ (c .before .before .loop-test .taken) (c .before .is-goto .ensures) (c .if1 .left), omega arith)
 
--- src/clip.rt:37:1
 returns-2 : tie.Need-returns-2 Inv-loop μ-loop
 returns-2 c = let a = c .before .before .before .before .args in goto-none (a .tokens .now) (a .text .now) (a .a) (a .n) (c .before .loop .k) (c .before .loop .inv .0) (omega arith)
 

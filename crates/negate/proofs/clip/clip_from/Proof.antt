@@ -6,15 +6,12 @@ use Rattle.negate.proofs.clip.clip_from.Reads as reads
 use Rattle.negate.proofs.clip.clip_from.Lts as lts
 use Rattle.negate.proofs.clip.token_start.Reads as token-start-reads
 
--- src/clip.rt:95:9
 returns : tie.Need-returns
 returns c = let a = c .before .before .args in from-first (a .tokens .now) (a .c) (a .k) (c .if1 .taken)
 
--- src/clip.rt:97:5
 token-start-requires : tie.Need-token-start-requires
 token-start-requires c κs = search needs
 
--- src/clip.rt:91:1
 returns-2 : tie.Need-returns-2
 returns-2 c = let a = c .before .before .before .args in from-other (a .tokens .now) (a .c) (a .k) _ (c .before .if1 .left) (c .token-start .ensures)
 

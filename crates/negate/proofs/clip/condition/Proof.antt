@@ -13,47 +13,36 @@ use Rattle.negate.proofs.clip.clip_from.Reads as clip-from-reads
 use Rattle.negate.proofs.clip.token_end.Reads as token-end-reads
 use Rattle.negate.proofs.clip.token_start.Reads as token-start-reads
 
--- src/clip.rt:117:9
 before-goto-requires : tie.Need-before-goto-requires
 before-goto-requires c κs = search needs
 
--- src/clip.rt:119:9
 returns : tie.Need-returns
 returns c = let a = c .before .before .before .before .args in condition-none (a .tokens .now) (a .text .now) (a .a) (a .n) (c .before .before-goto .result) (c .before .before-goto .ensures) (c .if1 .taken)
 
--- src/clip.rt:126:34
 token-start-requires : tie.Need-token-start-requires
 token-start-requires c κs = search needs
 
--- src/clip.rt:126:61
 token-end-requires : tie.Need-token-end-requires
 token-end-requires c κs = search needs
 
--- src/clip.rt:126:9
 after-opens-requires : tie.Need-after-opens-requires
 after-opens-requires c κs = search needs
 
--- src/clip.rt:133:41
 sub-clip-from : tie.Need-sub-clip-from
 sub-clip-from c = search needs
 
--- src/clip.rt:133:9
 clip-from-requires : tie.Need-clip-from-requires
 clip-from-requires c κs = search needs
 
--- src/clip.rt:134:61
 sub-token-end : tie.Need-sub-token-end
 sub-token-end c = search needs
 
--- src/clip.rt:134:40
 token-end-requires-2 : tie.Need-token-end-requires-2
 token-end-requires-2 c κs = search needs
 
--- src/clip.rt:134:9
 before-close-requires : tie.Need-before-close-requires
 before-close-requires c κs = search needs
 
--- src/clip.rt:114:1
 returns-2 : tie.Need-returns-2
 returns-2 c = let a = c .before .before .before .before .before .before .before .before .before .before .args in let h : 2 ≤ c .before .before .before .before .before .before .before .before-goto .result = omega arith in condition-is (a .tokens .now) (a .text .now) (a .a) (a .n) (c .before .before .before .before .before .before .before .before-goto .result) (c .before .before .before .before .before .before .before .before-goto .ensures) _ _ _ _ _ _ h (c .before .before .before .before .before .token-start .ensures) (c .before .before .before .before .token-end .ensures) (c .before .before .before .after-opens .ensures) (c .before .before .clip-from .ensures) (c .before .token-end2 .ensures) (c .before-close .ensures)
 

@@ -7,19 +7,15 @@ use Rattle.negate.proofs.clip.is_goto.Lts as lts
 use Rattle.sheet.proofs.tokens.place.Reads as place-reads
 use Rattle.sheet.proofs.tokens.token_is.Reads as token-is-reads
 
--- src/clip.rt:33:28
 place-requires : tie.Need-place-requires
 place-requires c κs = search needs
 
--- src/clip.rt:33:58
 slice-aggregate-token-is : tie.Need-slice-aggregate-token-is
 slice-aggregate-token-is c = search needs
 
--- src/clip.rt:33:5
 token-is-requires : tie.Need-token-is-requires
 token-is-requires c κs = search needs
 
--- src/clip.rt:30:1
 returns : tie.Need-returns
 returns c = goto-same _ _ _ _ _ (c .before .before .place .ensures) (c .token-is .ensures)
 

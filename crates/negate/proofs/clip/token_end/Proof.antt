@@ -7,15 +7,12 @@ use Rattle.negate.proofs.clip.token_end.Lts as lts
 use Rattle.sheet.proofs.tokens.end_at.Reads as end-at-reads
 use Rattle.sheet.proofs.tokens.place.Reads as place-reads
 
--- src/clip.rt:87:20
 place-requires : tie.Need-place-requires
 place-requires c κs = search needs
 
--- src/clip.rt:87:5
 end-at-requires : tie.Need-end-at-requires
 end-at-requires c κs = search needs
 
--- src/clip.rt:84:1
 returns : tie.Need-returns
 returns c = end-same _ _ _ (c .before .place .ensures) _ (c .end-at .ensures)
 

@@ -10,35 +10,27 @@ use Rattle.sheet.proofs.tokens.kind_at.Reads as kind-at-reads
 use Rattle.sheet.proofs.tokens.place.Reads as place-reads
 use Rattle.sheet.proofs.tokens.start_at.Reads as start-at-reads
 
--- src/copies.rt:63:9
 place-requires : tie.Need-place-requires
 place-requires c κs = search needs
 
--- src/copies.rt:64:9
 kind-at-requires : tie.Need-kind-at-requires
 kind-at-requires c κs = search needs
 
--- src/copies.rt:65:9
 start-at-requires : tie.Need-start-at-requires
 start-at-requires c κs = search needs
 
--- src/copies.rt:66:9
 end-at-requires : tie.Need-end-at-requires
 end-at-requires c κs = search needs
 
--- src/copies.rt:67:5
 put-between-requires : tie.Need-put-between-requires
 put-between-requires c κs = search needs
 
--- src/copies.rt:51:1
 same-length : tie.Need-same-length
 same-length c = search needs
 
--- src/copies.rt:51:1
 same-length-2 : tie.Need-same-length-2
 same-length-2 c = search needs
 
--- src/copies.rt:51:1
 returns : tie.Need-returns
 returns c = put-token _ _ _ _ _ _ _ _ _ (c .before .before .before .before .before .before .before .before .before .before .place .ensures) (c .before .before .before .before .before .before .before .before .before .kind-at .ensures) (c .before .before .before .before .before .before .before .before .start-at .ensures) (c .before .before .before .before .before .before .before .end-at .ensures) (c .before .before .before .before .put-between .ensures)
 

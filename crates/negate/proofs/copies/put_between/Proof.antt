@@ -7,23 +7,18 @@ use Rattle.negate.proofs.copies.put_between.Lts as lts
 use Rattle.negate.proofs.copies.gap.Reads as gap-reads
 use Rattle.room.proofs.from_file.put_part.Reads as put-part-reads
 
--- src/copies.rt:47:53
 gap-requires : tie.Need-gap-requires
 gap-requires c κs = search needs
 
--- src/copies.rt:47:5
 put-part-requires : tie.Need-put-part-requires
 put-part-requires c κs = search needs
 
--- src/copies.rt:35:1
 same-length : tie.Need-same-length
 same-length c = search needs
 
--- src/copies.rt:35:1
 same-length-2 : tie.Need-same-length-2
 same-length-2 c = search needs
 
--- src/copies.rt:35:1
 returns : tie.Need-returns
 returns c = put-range _ _ _ _ _ _ _ (c .before .before .before .before .before .gap .ensures) (c .before .before .before .before .put-part .ensures)
 

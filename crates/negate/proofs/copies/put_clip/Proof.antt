@@ -18,35 +18,27 @@ Inv-loop tokens₀ text₀ lowered source c out₀ k₀ tokens text out k = (see
 abbrev μ-loop : tie.MeasureT-loop
 μ-loop tokens₀ text₀ lowered source c out₀ k₀ tokens text out k = c .count - k
 
--- src/copies.rt:128:5
 loop-holds : tie.Need-loop-holds Inv-loop μ-loop
 loop-holds c = (clips-start _ _ _ _, omega arith, omega arith, refl, refl)
 
--- src/copies.rt:129:9
 put-clip-at-requires : tie.Need-put-clip-at-requires Inv-loop μ-loop
 put-clip-at-requires c κs = search needs
 
--- src/copies.rt:130:9
 add-k : tie.Need-add-k Inv-loop μ-loop
 add-k c = omega arith
 
--- src/copies.rt:128:5
 loop-less : tie.Need-loop-less Inv-loop μ-loop
 loop-less c = omega arith
 
--- src/copies.rt:128:5
 loop-again : tie.Need-loop-again Inv-loop μ-loop
 loop-again c = let inv = c .before .before .before .before .before .before .before .before .before .loop .inv in (clips-turn _ _ _ _ _ _ _ (inv .1) (c .before .before .before .before .put-clip-at .ensures) (inv .0), omega arith, omega arith, c .before .before .before .before .put-clip-at .kept .0 ∙ inv .3, c .before .before .before .before .put-clip-at .kept .1 .0 ∙ inv .4)
 
--- src/copies.rt:115:1
 same-length : tie.Need-same-length Inv-loop μ-loop
 same-length c = c .before .before .loop .inv .3
 
--- src/copies.rt:115:1
 same-length-2 : tie.Need-same-length-2 Inv-loop μ-loop
 same-length-2 c = c .before .before .loop .inv .4
 
--- src/copies.rt:115:1
 returns : tie.Need-returns Inv-loop μ-loop
 returns c = let z : c .before .before .loop .k - 1 ≡ c .before .before .before .before .before .before .before .args .c .count - 1 = omega arith in clips-end _ _ _ _ _ _ z (c .before .before .loop .inv .0)
 

@@ -12,43 +12,33 @@ use Rattle.sheet.proofs.ranges.none_between.Reads as none-between-reads
 use Rattle.sheet.proofs.tokens.kind_at.Reads as kind-at-reads
 use Rattle.sheet.proofs.tokens.place.Reads as place-reads
 
--- src/copies.rt:105:9
 clip-from-requires : tie.Need-clip-from-requires
 clip-from-requires c κs = search needs
 
--- src/copies.rt:106:9
 clip-to-requires : tie.Need-clip-to-requires
 clip-to-requires c κs = search needs
 
--- src/copies.rt:107:8
 none-between-requires : tie.Need-none-between-requires
 none-between-requires c κs = search needs
 
--- src/copies.rt:108:9
 returns : tie.Need-returns
 returns c = clip-none _ _ _ _ _ _ _ _ (c .before .before .before .clip-from .ensures) (c .before .before .clip-to .ensures) (c .before .none-between .ensures) (c .if1 .taken)
 
--- src/copies.rt:110:33
 place-requires : tie.Need-place-requires
 place-requires c κs = search needs
 
--- src/copies.rt:110:9
 kind-at-requires : tie.Need-kind-at-requires
 kind-at-requires c κs = search needs
 
--- src/copies.rt:111:5
 put-between-requires : tie.Need-put-between-requires
 put-between-requires c κs = search needs
 
--- src/copies.rt:93:1
 same-length : tie.Need-same-length
 same-length c = search needs
 
--- src/copies.rt:93:1
 same-length-2 : tie.Need-same-length-2
 same-length-2 c = search needs
 
--- src/copies.rt:93:1
 returns-2 : tie.Need-returns-2
 returns-2 c = clip-some _ _ _ _ _ _ _ _ _ _ (c .before .before .before .before .before .before .before .before .before .before .before .before .clip-from .ensures) (c .before .before .before .before .before .before .before .before .before .before .before .clip-to .ensures) (c .before .before .before .before .before .before .before .before .before .before .none-between .ensures) (c .before .before .before .before .before .before .before .before .before .if1 .left) (kind-same _ _ _ (c .before .before .before .before .before .before .before .before .place .ensures) _ (c .before .before .before .before .before .before .before .kind-at .ensures)) (c .before .before .before .before .put-between .ensures)
 

@@ -7,23 +7,18 @@ use Rattle.negate.proofs.copies.put_condition.Lts as lts
 use Rattle.negate.proofs.clip.condition.Reads as condition-reads
 use Rattle.negate.proofs.copies.put_clip.Reads as put-clip-reads
 
--- src/copies.rt:148:9
 condition-requires : tie.Need-condition-requires
 condition-requires c κs = search needs
 
--- src/copies.rt:149:5
 put-clip-requires : tie.Need-put-clip-requires
 put-clip-requires c κs = search needs
 
--- src/copies.rt:136:1
 same-length : tie.Need-same-length
 same-length c = search needs
 
--- src/copies.rt:136:1
 same-length-2 : tie.Need-same-length-2
 same-length-2 c = search needs
 
--- src/copies.rt:136:1
 returns : tie.Need-returns
 returns c = pieces-are _ _ _ _ (c .before .before .before .before .put-clip .ensures) (c .before .before .before .before .before .before .before .condition .ensures)
 

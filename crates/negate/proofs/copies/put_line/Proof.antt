@@ -18,35 +18,27 @@ Inv-loop tokens₀ text₀ lowered source a n out₀ k₀ tokens text out k = (s
 abbrev μ-loop : tie.MeasureT-loop
 μ-loop tokens₀ text₀ lowered source a n out₀ k₀ tokens text out k = n - k
 
--- src/copies.rt:85:5
 loop-holds : tie.Need-loop-holds Inv-loop μ-loop
 loop-holds c = (line-start _ _ _ _, omega arith, refl, refl)
 
--- src/copies.rt:86:9
 put-at-requires : tie.Need-put-at-requires Inv-loop μ-loop
 put-at-requires c κs = search needs
 
--- src/copies.rt:87:9
 add-k : tie.Need-add-k Inv-loop μ-loop
 add-k c = omega arith
 
--- src/copies.rt:85:5
 loop-less : tie.Need-loop-less Inv-loop μ-loop
 loop-less c = omega arith
 
--- src/copies.rt:85:5
 loop-again : tie.Need-loop-again Inv-loop μ-loop
 loop-again c = let inv = c .before .before .before .before .before .before .before .before .loop .inv in (line-turn _ _ _ _ _ _ _ (c .before .before .before .before .put-at .ensures) (inv .0), omega arith, c .before .before .before .before .put-at .kept .0 ∙ inv .2, c .before .before .before .before .put-at .kept .1 .0 ∙ inv .3)
 
--- src/copies.rt:71:1
 same-length : tie.Need-same-length Inv-loop μ-loop
 same-length c = c .before .loop .inv .2
 
--- src/copies.rt:71:1
 same-length-2 : tie.Need-same-length-2 Inv-loop μ-loop
 same-length-2 c = c .before .loop .inv .3
 
--- src/copies.rt:71:1
 returns : tie.Need-returns Inv-loop μ-loop
 returns c = let z : c .before .loop .k ≡ c .before .before .before .before .before .before .args .n = omega arith in line-end _ _ _ _ _ _ _ z (c .before .loop .inv .0)
 

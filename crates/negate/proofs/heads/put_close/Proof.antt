@@ -7,23 +7,18 @@ use Rattle.negate.proofs.heads.put_close.Reads as reads
 use Rattle.negate.proofs.heads.put_close.Lts as lts
 use Rattle.room.proofs.put.put.Reads as put-reads
 
--- src/heads.rt:18:35
 slice-aggregate-put : tie.Need-slice-aggregate-put
 slice-aggregate-put c = search needs
 
--- src/heads.rt:18:5
 put-requires : tie.Need-put-requires
 put-requires c κs = search needs
 
--- src/heads.rt:14:1
 same-length : tie.Need-same-length
 same-length c = search needs
 
--- src/heads.rt:14:1
 same-length-2 : tie.Need-same-length-2
 same-length-2 c = search needs
 
--- src/heads.rt:14:1
 returns : tie.Need-returns
 unfolding closeTokens
 returns c = next _ _ _ _ (c .before .before .before .before .put .ensures) (done _)

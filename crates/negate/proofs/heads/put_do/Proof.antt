@@ -7,31 +7,24 @@ use Rattle.negate.proofs.heads.put_do.Reads as reads
 use Rattle.negate.proofs.heads.put_do.Lts as lts
 use Rattle.room.proofs.put.put.Reads as put-reads
 
--- src/heads.rt:26:47
 slice-aggregate-put : tie.Need-slice-aggregate-put
 slice-aggregate-put c = search needs
 
--- src/heads.rt:26:9
 put-requires : tie.Need-put-requires
 put-requires c κs = search needs
 
--- src/heads.rt:27:35
 slice-aggregate-put-2 : tie.Need-slice-aggregate-put-2
 slice-aggregate-put-2 c = search needs
 
--- src/heads.rt:27:5
 put-requires-2 : tie.Need-put-requires-2
 put-requires-2 c κs = search needs
 
--- src/heads.rt:22:1
 same-length : tie.Need-same-length
 same-length c = search needs
 
--- src/heads.rt:22:1
 same-length-2 : tie.Need-same-length-2
 same-length-2 c = search needs
 
--- src/heads.rt:22:1
 returns : tie.Need-returns
 unfolding doTokens
 returns c = next _ _ _ _ (c .before .before .before .before .before .before .before .before .before .before .before .before .put .ensures) (next _ _ _ _ (c .before .before .before .before .put2 .ensures) (done _))

@@ -9,51 +9,39 @@ use Rattle.negate.proofs.heads.put_while.Lts as lts
 use Rattle.negate.proofs.copies.put_condition.Reads as put-condition-reads
 use Rattle.room.proofs.put.put.Reads as put-reads
 
--- src/heads.rt:43:45
 slice-aggregate-put : tie.Need-slice-aggregate-put
 slice-aggregate-put c = search needs
 
--- src/heads.rt:43:9
 put-requires : tie.Need-put-requires
 put-requires c κs = search needs
 
--- src/heads.rt:44:47
 slice-aggregate-put-2 : tie.Need-slice-aggregate-put-2
 slice-aggregate-put-2 c = search needs
 
--- src/heads.rt:44:9
 put-requires-2 : tie.Need-put-requires-2
 put-requires-2 c κs = search needs
 
--- src/heads.rt:45:45
 slice-aggregate-put-3 : tie.Need-slice-aggregate-put-3
 slice-aggregate-put-3 c = search needs
 
--- src/heads.rt:45:9
 put-requires-3 : tie.Need-put-requires-3
 put-requires-3 c κs = search needs
 
--- src/heads.rt:46:9
 put-condition-requires : tie.Need-put-condition-requires
 put-condition-requires c κs = search needs
 
--- src/heads.rt:47:35
 slice-aggregate-put-4 : tie.Need-slice-aggregate-put-4
 slice-aggregate-put-4 c = search needs
 
--- src/heads.rt:47:5
 put-requires-4 : tie.Need-put-requires-4
 put-requires-4 c κs = search needs
 
--- src/heads.rt:31:1
 same-length : tie.Need-same-length
 same-length c = c .before .before .before .before .put4 .kept .0 ∙ c .before .before .before .before .before .before .before .before .before .before .before .before .put-condition .kept .0 ∙ c .before .before .before .before .before .before .before .before .before .before .before .before .before .before .before .before .before .before .before .put3 .kept .0 ∙ c .before .before .before .before .before .before .before .before .before .before .before .before .before .before .before .before .before .before .before .before .before .before .before .before .before .before .before .put2 .kept .0 ∙ c .before .before .before .before .before .before .before .before .before .before .before .before .before .before .before .before .before .before .before .before .before .before .before .before .before .before .before .before .before .before .before .before .before .before .before .put .kept .0
 
--- src/heads.rt:31:1
 same-length-2 : tie.Need-same-length-2
 same-length-2 c = c .before .before .before .before .put4 .kept .1 .0 ∙ c .before .before .before .before .before .before .before .before .before .before .before .before .put-condition .kept .1 .0 ∙ c .before .before .before .before .before .before .before .before .before .before .before .before .before .before .before .before .before .before .before .put3 .kept .1 .0 ∙ c .before .before .before .before .before .before .before .before .before .before .before .before .before .before .before .before .before .before .before .before .before .before .before .before .before .before .before .put2 .kept .1 .0 ∙ c .before .before .before .before .before .before .before .before .before .before .before .before .before .before .before .before .before .before .before .before .before .before .before .before .before .before .before .before .before .before .before .before .before .before .before .put .kept .1 .0
 
--- src/heads.rt:31:1
 returns : tie.Need-returns
 unfolding whileTokens
 returns c = next _ _ _ _ (c .before .before .before .before .before .before .before .before .before .before .before .before .before .before .before .before .before .before .before .before .before .before .before .before .before .before .before .before .before .before .before .before .before .before .before .put .ensures) (next _ _ _ _ (c .before .before .before .before .before .before .before .before .before .before .before .before .before .before .before .before .before .before .before .before .before .before .before .before .before .before .before .put2 .ensures) (next _ _ _ _ (c .before .before .before .before .before .before .before .before .before .before .before .before .before .before .before .before .before .before .before .put3 .ensures) (more _ _ _ _ _ (c .before .before .before .before .before .before .before .before .before .before .before .before .put-condition .ensures) (next _ _ _ _ (c .before .before .before .before .put4 .ensures) (done _))))) ∙ sym (merged _ _)

@@ -4,11 +4,9 @@ use Rattle.passes.proofs.dropping.count_rows.Tie as tie
 use Rattle.passes.proofs.dropping.count_rows.Reads as reads
 use Rattle.passes.proofs.dropping.count_rows.Lts as lts
 
--- src/dropping.rt:56:9
 returns : tie.Need-returns
 returns c = count-all (c .before .args .rows .now) (c .before .args .n) (c .if1 .taken)
 
--- src/dropping.rt:52:1
 returns-2 : tie.Need-returns-2
 returns-2 c = count-some (c .before .args .rows .now) (c .before .args .n) (c .if1 .left)
 

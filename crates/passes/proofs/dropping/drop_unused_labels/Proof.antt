@@ -10,31 +10,24 @@ use Rattle.passes.proofs.dropping.gather.Reads as gather-reads
 use Rattle.passes.proofs.forming.clear.Reads as clear-reads
 use Rattle.passes.proofs.spans.note.Reads as note-reads
 
--- src/dropping.rt:65:5
 note-requires : tie.Need-note-requires
 note-requires c κs = search needs
 
--- src/dropping.rt:66:9
 count-rows-requires : tie.Need-count-rows-requires
 count-rows-requires c κs = search needs
 
--- src/dropping.rt:67:9
 gather-requires : tie.Need-gather-requires
 gather-requires c κs = count-le (c .before .before .before .before .before .before .before .before .before .before .before .args .rows .now) (c .before .before .before .before .before .before .before .before .before .before .before .args .n) _ (c .before .before .count-rows .ensures)
 
--- src/dropping.rt:68:5
 clear-requires : tie.Need-clear-requires
 clear-requires c κs = (c .before .before .before .gather .ensures .1, omega (arith, c .before .before .before .gather .kept .0, count-le (c .before .before .before .before .before .before .before .before .before .before .before .before .before .before .before .args .rows .now) (c .before .before .before .before .before .before .before .before .before .before .before .before .before .before .before .args .n) _ (c .before .before .before .before .before .before .count-rows .ensures)))
 
--- src/dropping.rt:62:1
 same-length : tie.Need-same-length
 same-length c = search needs
 
--- src/dropping.rt:62:1
 same-length-2 : tie.Need-same-length-2
 same-length-2 c = search needs
 
--- src/dropping.rt:62:1
 returns : tie.Need-returns
 returns c = drop-all _ _ _ _ _ _ _ _ (c .before .before .before .before .before .before .before .before .before .before .before .before .before .note .ensures) (c .before .before .before .before .before .before .before .before .before .count-rows .ensures) (c .before .before .before .before .before .before .gather .ensures .0) (c .before .before .clear .ensures)
 

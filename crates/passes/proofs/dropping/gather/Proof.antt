@@ -19,31 +19,24 @@ Inv-loop rows₀ spans n m c₀ i₀ rows c i = (c ≤ i) × (i ≤ m) × (lengt
 abbrev μ-loop : tie.MeasureT-loop
 μ-loop rows₀ spans n m c₀ i₀ rows c i = m - i
 
--- src/dropping.rt:42:5
 loop-holds : tie.Need-loop-holds Inv-loop μ-loop
 loop-holds c = (omega arith, omega arith, refl, gather-start (keptRow _ _) _ _)
 
--- src/dropping.rt:43:13
 row-at-requires : tie.Need-row-at-requires Inv-loop μ-loop
 row-at-requires c κs = search needs
 
--- src/dropping.rt:44:13
 is-kept-requires : tie.Need-is-kept-requires Inv-loop μ-loop
 is-kept-requires c κs = search needs
 
--- src/dropping.rt:45:9
 place-requires : tie.Need-place-requires Inv-loop μ-loop
 place-requires c κs = omega arith
 
--- src/dropping.rt:46:9
 add-i : tie.Need-add-i Inv-loop μ-loop
 add-i c = search needs
 
--- src/dropping.rt:42:5
 loop-less : tie.Need-loop-less Inv-loop μ-loop
 loop-less c = search needs
 
--- src/dropping.rt:42:5
 loop-again : tie.Need-loop-again Inv-loop μ-loop
 loop-again c = let l = c .before .before .before .before .before .before .before .before .loop in
     let t = c .before .before .place in (
@@ -53,11 +46,9 @@ loop-again c = let l = c .before .before .before .before .before .before .before
       l .inv .3 ∙ gather-turn (keptRow _ _) _ _ _ _ (c .before .before .before .before .before .before .before .loop-test .taken) _ (c .before .before .before .before .before .row-at .ensures) _ (c .before .before .before .before .is-kept .ensures) _ _ (t .ensures),
     )
 
--- src/dropping.rt:36:1
 same-length : tie.Need-same-length Inv-loop μ-loop
 same-length c = search needs
 
--- src/dropping.rt:36:1
 returns : tie.Need-returns Inv-loop μ-loop
 returns c = (gather-end (keptRow _ _) _ _ _ _ (c .loop-test .left) ∙ sym (c .before .loop .inv .3), omega (arith, c .before .loop .inv .0))
 

@@ -7,19 +7,15 @@ use Rattle.passes.proofs.dropping.is_kept.Lts as lts
 use Rattle.passes.proofs.rows.kind_of.Reads as kind-of-reads
 use Rattle.passes.proofs.spans.aimed_out.Reads as aimed-out-reads
 
--- src/dropping.rt:17:8
 kind-of-requires : tie.Need-kind-of-requires
 kind-of-requires c κs = search needs
 
--- src/dropping.rt:18:9
 returns : tie.Need-returns
 returns c = keep-other _ _ _ _ (c .before .kind-of .ensures) (c .if1 .taken)
 
--- src/dropping.rt:20:5
 aimed-out-requires : tie.Need-aimed-out-requires
 aimed-out-requires c κs = search needs
 
--- src/dropping.rt:14:1
 returns-2 : tie.Need-returns-2
 returns-2 c = keep-label _ _ _ _ (c .before .before .kind-of .ensures) (c .before .if1 .left) _ (c .aimed-out .ensures)
 

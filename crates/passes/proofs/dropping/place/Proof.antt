@@ -5,27 +5,21 @@ use Rattle.passes.proofs.dropping.place.Tie as tie
 use Rattle.passes.proofs.dropping.place.Reads as reads
 use Rattle.passes.proofs.dropping.place.Lts as lts
 
--- src/dropping.rt:29:9
 mul-rows : tie.Need-mul-rows
 mul-rows c = search needs
 
--- src/dropping.rt:29:9
 slice-write-rows : tie.Need-slice-write-rows
 slice-write-rows c = search needs
 
--- src/dropping.rt:30:16
 add-result : tie.Need-add-result
 add-result c = search needs
 
--- src/dropping.rt:30:9
 same-length : tie.Need-same-length
 same-length c = search needs
 
--- src/dropping.rt:30:9
 returns : tie.Need-returns
 returns c = place-yes _ _ _ _ (c .if1 .taken)
 
--- src/dropping.rt:24:1
 returns-2 : tie.Need-returns-2
 returns-2 c = place-no _ _ _ _ (c .if1 .left)
 

@@ -16,37 +16,29 @@ Inv-loop s₀ a b k₀ s k = (a ≤ k) × (k ≤ b) × (length s ≡ length s₀
 abbrev μ-loop : tie.MeasureT-loop
 μ-loop s₀ a b k₀ s k = b - k
 
--- src/forming.rt:39:5
 loop-holds : tie.Need-loop-holds Inv-loop μ-loop
 loop-holds c = (omega arith, omega arith, refl, refl)
 
--- src/forming.rt:40:9
 mul-s : tie.Need-mul-s Inv-loop μ-loop
 mul-s c = search needs
 
--- src/forming.rt:40:9
 slice-write-s : tie.Need-slice-write-s Inv-loop μ-loop
 slice-write-s c = search needs
 
--- src/forming.rt:41:9
 add-k : tie.Need-add-k Inv-loop μ-loop
 add-k c = search needs
 
--- src/forming.rt:39:5
 loop-less : tie.Need-loop-less Inv-loop μ-loop
 loop-less c = search needs
 
--- src/forming.rt:39:5
 loop-again : tie.Need-loop-again Inv-loop μ-loop
 unfolding nought
 loop-again c = let l = c .before .loop in
     (omega arith, omega arith, simp length-set (l .inv .2), l .inv .3 ∙ change-turn nought (l .s) (l .k) _ 0 (omega arith) refl)
 
--- src/forming.rt:34:1
 same-length : tie.Need-same-length Inv-loop μ-loop
 same-length c = search needs
 
--- src/forming.rt:34:1
 returns : tie.Need-returns Inv-loop μ-loop
 returns c = let l = c .before .loop in
     let a = c .before .before .args in

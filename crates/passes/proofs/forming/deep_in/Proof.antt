@@ -17,36 +17,28 @@ Inv-loop rows i j k₀ k = deepIn rows i j ≡ someRow tooDeep rows k (j - k)
 abbrev μ-loop : tie.MeasureT-loop
 μ-loop rows i j k₀ k = j - k
 
--- src/forming.rt:63:5
 loop-holds : tie.Need-loop-holds Inv-loop μ-loop
 unfolding deepIn
 loop-holds c = refl
 
--- src/forming.rt:64:21
 row-at-requires : tie.Need-row-at-requires Inv-loop μ-loop
 row-at-requires c κs = search needs
 
--- src/forming.rt:64:12
 too-deep-requires : tie.Need-too-deep-requires Inv-loop μ-loop
 too-deep-requires c κs = search needs
 
--- src/forming.rt:65:13
 returns : tie.Need-returns Inv-loop μ-loop
 returns c = some-hit _ _ _ _ (c .before .before .before .loop-test .taken) _ (c .before .before .row-at .ensures) _ (c .before .too-deep .ensures) (c .if1 .taken) ∙ sym (c .before .before .before .before .loop .inv)
 
--- src/forming.rt:67:9
 add-k : tie.Need-add-k Inv-loop μ-loop
 add-k c = search needs
 
--- src/forming.rt:63:5
 loop-less : tie.Need-loop-less Inv-loop μ-loop
 loop-less c = search needs
 
--- src/forming.rt:63:5
 loop-again : tie.Need-loop-again Inv-loop μ-loop
 loop-again c = c .before .before .before .before .loop .inv ∙ some-on _ _ _ _ (c .before .before .before .loop-test .taken) _ (c .before .before .row-at .ensures) _ (c .before .too-deep .ensures) (c .if1 .left)
 
--- src/forming.rt:59:1
 returns-2 : tie.Need-returns-2 Inv-loop μ-loop
 returns-2 c = some-none _ _ _ _ (c .loop-test .left) ∙ sym (c .before .loop .inv)
 

@@ -16,56 +16,43 @@ Inv-loop rows₀ n j v k₀ rows k = (j ≤ k) × (k ≤ n) × (length rows ≡ 
 abbrev μ-loop : tie.MeasureT-loop
 μ-loop rows₀ n j v k₀ rows k = k - j
 
--- src/forming.rt:51:5
 loop-holds : tie.Need-loop-holds Inv-loop μ-loop
 loop-holds c = (omega arith, omega arith, refl, refl)
 
--- src/forming.rt:52:24
 sub-rows : tie.Need-sub-rows Inv-loop μ-loop
 sub-rows c = search needs
 
--- src/forming.rt:52:19
 mul-rows : tie.Need-mul-rows Inv-loop μ-loop
 mul-rows c = search needs
 
--- src/forming.rt:52:19
 slice-read-rows : tie.Need-slice-read-rows Inv-loop μ-loop
 slice-read-rows c = search needs
 
--- src/forming.rt:52:9
 mul-rows-2 : tie.Need-mul-rows-2 Inv-loop μ-loop
 mul-rows-2 c = search needs
 
--- src/forming.rt:52:9
 slice-write-rows : tie.Need-slice-write-rows Inv-loop μ-loop
 slice-write-rows c = search needs
 
--- src/forming.rt:53:9
 sub-k : tie.Need-sub-k Inv-loop μ-loop
 sub-k c = search needs
 
--- src/forming.rt:51:5
 loop-less : tie.Need-loop-less Inv-loop μ-loop
 loop-less c = search needs
 
--- src/forming.rt:51:5
 loop-again : tie.Need-loop-again Inv-loop μ-loop
 loop-again c = let l = c .before .before .loop in
     (omega arith, omega arith, simp length-set (l .inv .2), l .inv .3 ∙ shift-turn _ _ _ (omega arith))
 
--- src/forming.rt:55:5
 mul-rows-3 : tie.Need-mul-rows-3 Inv-loop μ-loop
 mul-rows-3 c = search needs
 
--- src/forming.rt:55:5
 slice-write-rows-2 : tie.Need-slice-write-rows-2 Inv-loop μ-loop
 slice-write-rows-2 c = search needs
 
--- src/forming.rt:46:1
 same-length : tie.Need-same-length Inv-loop μ-loop
 same-length c = search needs
 
--- src/forming.rt:46:1
 returns : tie.Need-returns Inv-loop μ-loop
 returns c = let l = c .before .loop in
     let a = c .before .before .args in

@@ -17,48 +17,37 @@ Inv-loop rows₀ a b k₀ rows k = (a ≤ k) × (k ≤ b) × (length rows ≡ le
 abbrev μ-loop : tie.MeasureT-loop
 μ-loop rows₀ a b k₀ rows k = b - k
 
--- src/forming.rt:27:5
 loop-holds : tie.Need-loop-holds Inv-loop μ-loop
 loop-holds c = (omega arith, omega arith, refl, refl)
 
--- src/forming.rt:28:22
 mul-up : tie.Need-mul-up Inv-loop μ-loop
 mul-up c = search needs
 
--- src/forming.rt:28:22
 slice-read-up : tie.Need-slice-read-up Inv-loop μ-loop
 slice-read-up c = search needs
 
--- src/forming.rt:28:19
 up-requires : tie.Need-up-requires Inv-loop μ-loop
 up-requires c κs = search needs
 
--- src/forming.rt:28:9
 mul-rows : tie.Need-mul-rows Inv-loop μ-loop
 mul-rows c = search needs
 
--- src/forming.rt:28:9
 slice-write-rows : tie.Need-slice-write-rows Inv-loop μ-loop
 slice-write-rows c = search needs
 
--- src/forming.rt:29:9
 add-k : tie.Need-add-k Inv-loop μ-loop
 add-k c = search needs
 
--- src/forming.rt:27:5
 loop-less : tie.Need-loop-less Inv-loop μ-loop
 loop-less c = search needs
 
--- src/forming.rt:27:5
 loop-again : tie.Need-loop-again Inv-loop μ-loop
 loop-again c = let l = c .before .before .before .loop in
     (omega arith, omega arith, simp length-set (l .inv .2), l .inv .3 ∙ change-turn raised (l .rows) (l .k) _ _ (omega arith) (c .up .ensures))
 
--- src/forming.rt:22:1
 same-length : tie.Need-same-length Inv-loop μ-loop
 same-length c = search needs
 
--- src/forming.rt:22:1
 returns : tie.Need-returns Inv-loop μ-loop
 returns c = let l = c .before .loop in
     let a = c .before .before .before .args in

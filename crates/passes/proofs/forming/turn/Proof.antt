@@ -7,19 +7,15 @@ use Rattle.passes.proofs.forming.turn.Reads as reads
 use Rattle.passes.proofs.forming.turn.Lts as lts
 use Rattle.passes.proofs.rows.kind_of.Reads as kind-of-reads
 
--- src/forming.rt:27:8
 kind-of-requires : tie.Need-kind-of-requires
 kind-of-requires c κs = search needs
 
--- src/forming.rt:28:16
 add-result : tie.Need-add-result
 add-result c = omega (arith, turn-fits _ _ _ (c .before .kind-of .ensures) (c .before .before .pre) (c .if1 .taken) (omega arith))
 
--- src/forming.rt:28:9
 returns : tie.Need-returns
 returns c = turn-in _ _ _ (c .before .kind-of .ensures) (c .if1 .taken)
 
--- src/forming.rt:23:1
 returns-2 : tie.Need-returns-2
 returns-2 c = turn-top _ _ _ (c .before .kind-of .ensures) (c .if1 .left)
 

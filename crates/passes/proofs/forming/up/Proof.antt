@@ -7,19 +7,15 @@ use Rattle.passes.proofs.forming.up.Reads as reads
 use Rattle.passes.proofs.forming.up.Lts as lts
 use Rattle.passes.proofs.rows.indent_of.Reads as indent-of-reads
 
--- src/forming.rt:15:8
 indent-of-requires : tie.Need-indent-of-requires
 indent-of-requires c κs = search needs
 
--- src/forming.rt:16:16
 add-result : tie.Need-add-result
 add-result c = omega (arith, up-fits _ _ (c .before .indent-of .ensures) (c .if1 .taken) (omega arith))
 
--- src/forming.rt:16:9
 returns : tie.Need-returns
 returns c = up-in _ _ (c .before .indent-of .ensures) (c .if1 .taken)
 
--- src/forming.rt:12:1
 returns-2 : tie.Need-returns-2
 returns-2 c = up-top _ _ (c .before .indent-of .ensures) (c .if1 .left)
 

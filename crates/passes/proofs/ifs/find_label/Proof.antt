@@ -16,39 +16,30 @@ Inv-loop rows n i m d j₀ j = labelFrom n m d rows i (n - i) ≡ labelFrom n m 
 abbrev μ-loop : tie.MeasureT-loop
 μ-loop rows n i m d j₀ j = n - j
 
--- src/ifs.rt:27:5
 loop-holds : tie.Need-loop-holds Inv-loop μ-loop
 loop-holds c = refl
 
--- src/ifs.rt:28:23
 row-at-requires : tie.Need-row-at-requires Inv-loop μ-loop
 row-at-requires c κs = search needs
 
--- src/ifs.rt:28:13
 judge-requires : tie.Need-judge-requires Inv-loop μ-loop
 judge-requires c κs = search needs
 
--- src/ifs.rt:30:13
 returns : tie.Need-returns Inv-loop μ-loop
 returns c = label-found _ _ _ _ _ (c .before .before .before .loop-test .taken) _ (c .before .before .row-at .ensures) _ (c .before .judge .ensures) (c .if1 .taken) ∙ sym (c .before .before .before .before .loop .inv)
 
--- src/ifs.rt:33:13
 returns-2 : tie.Need-returns-2 Inv-loop μ-loop
 returns-2 c = label-ended _ _ _ _ _ (c .before .before .before .before .loop-test .taken) _ (c .before .before .before .row-at .ensures) _ (c .before .before .judge .ensures) (c .if2 .taken) ∙ sym (c .before .before .before .before .before .loop .inv)
 
--- src/ifs.rt:35:9
 add-j : tie.Need-add-j Inv-loop μ-loop
 add-j c = search needs
 
--- src/ifs.rt:27:5
 loop-less : tie.Need-loop-less Inv-loop μ-loop
 loop-less c = search needs
 
--- src/ifs.rt:27:5
 loop-again : tie.Need-loop-again Inv-loop μ-loop
 loop-again c = c .before .before .before .before .before .loop .inv ∙ label-on _ _ _ _ _ (c .before .before .before .before .loop-test .taken) _ (c .before .before .before .row-at .ensures) _ (c .before .before .judge .ensures) (c .before .if1 .left) (c .if2 .left)
 
--- src/ifs.rt:23:1
 returns-3 : tie.Need-returns-3 Inv-loop μ-loop
 returns-3 c = label-none _ _ _ _ _ (c .loop-test .left) ∙ sym (c .before .loop .inv)
 

@@ -13,51 +13,39 @@ use Rattle.passes.proofs.forming.turn.Reads as turn-reads
 use Rattle.passes.proofs.rows.indent_of.Reads as indent-of-reads
 use Rattle.passes.proofs.rows.row_at.Reads as row-at-reads
 
--- src/ifs.rt:67:9
 row-at-requires : tie.Need-row-at-requires
 row-at-requires c κs = search needs
 
--- src/ifs.rt:68:15
 turn-requires : tie.Need-turn-requires
 turn-requires c κs = search needs
 
--- src/ifs.rt:68:5
 mul-rows : tie.Need-mul-rows
 mul-rows c = search needs
 
--- src/ifs.rt:68:5
 slice-write-rows : tie.Need-slice-write-rows
 slice-write-rows c = search needs
 
--- src/ifs.rt:69:17
 add-raise : tie.Need-add-raise
 add-raise c = search needs
 
--- src/ifs.rt:69:5
 raise-requires : tie.Need-raise-requires
 raise-requires c κs = (omega arith, omega (arith, length-set (c .before .before .before .before .before .args .rows .now) (c .before .before .before .before .before .args .k) (c .before .turn .result)))
 
--- src/ifs.rt:70:37
 indent-of-requires : tie.Need-indent-of-requires
 indent-of-requires c κs = search needs
 
--- src/ifs.rt:70:32
 mul-insert-row : tie.Need-mul-insert-row
 mul-insert-row c = omega (arith, indent-small (c .before .before .before .before .before .before .before .row-at .result))
 
--- src/ifs.rt:70:28
 add-insert-row : tie.Need-add-insert-row
 add-insert-row c = omega (arith, indent-small (c .before .before .before .before .before .before .before .row-at .result))
 
--- src/ifs.rt:70:5
 insert-row-requires : tie.Need-insert-row-requires
 insert-row-requires c κs = (omega arith, omega (arith, c .before .before .before .before .raise .kept .0, length-set (c .before .before .before .before .before .before .before .before .before .before .args .rows .now) (c .before .before .before .before .before .before .before .before .before .before .args .k) (c .before .before .before .before .before .before .turn .result)))
 
--- src/ifs.rt:63:1
 same-length : tie.Need-same-length
 same-length c = c .before .before .insert-row .kept .0 ∙ c .before .before .before .before .before .before .before .raise .kept .0 ∙ length-set (c .before .before .before .before .before .before .before .before .before .before .before .before .before .args .rows .now) (c .before .before .before .before .before .before .before .before .before .before .before .before .before .args .k) (c .before .before .before .before .before .before .before .before .before .turn .result)
 
--- src/ifs.rt:63:1
 returns : tie.Need-returns
 returns c = form-if _ _ _ _ _ _ _ _ _ _ (c .before .before .before .before .before .before .before .before .before .before .row-at .ensures) (c .before .before .before .before .before .before .before .before .before .turn .ensures) (c .before .before .before .indent-of .ensures) refl (c .before .before .before .before .before .before .before .raise .ensures) (c .before .before .insert-row .ensures)
 

@@ -7,23 +7,18 @@ use Rattle.passes.proofs.ifs.structure_ifs.Lts as lts
 use Rattle.passes.proofs.ifs.sweep_ifs.Reads as sweep-ifs-reads
 use Rattle.passes.proofs.spans.note.Reads as note-reads
 
--- src/ifs.rt:120:5
 note-requires : tie.Need-note-requires
 note-requires c κs = search needs
 
--- src/ifs.rt:121:5
 sweep-ifs-requires : tie.Need-sweep-ifs-requires
 sweep-ifs-requires c κs = search needs
 
--- src/ifs.rt:117:1
 same-length : tie.Need-same-length
 same-length c = search needs
 
--- src/ifs.rt:117:1
 same-length-2 : tie.Need-same-length-2
 same-length-2 c = search needs
 
--- src/ifs.rt:117:1
 returns : tie.Need-returns
 returns c = if-pass _ _ _ _ _ (c .before .before .before .before .before .before .before .before .before .note .ensures) (c .before .before .before .before .sweep-ifs .ensures)
 

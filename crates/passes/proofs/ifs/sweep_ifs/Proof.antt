@@ -18,43 +18,33 @@ Inv-loop rows₀ spans₀ n rest₀ regions₀ k₀ rows spans rest regions k = 
 abbrev μ-loop : tie.MeasureT-loop
 μ-loop rows₀ spans₀ n rest₀ regions₀ k₀ rows spans rest regions k = length rows₀ + n - k
 
--- src/ifs.rt:101:5
 loop-holds : tie.Need-loop-holds Inv-loop μ-loop
 loop-holds c = (omega arith, omega arith, omega arith, refl, refl, sweep-start ifTried _+_ _ _ _ _)
 
--- src/ifs.rt:102:13
 try-if-requires : tie.Need-try-if-requires Inv-loop μ-loop
 try-if-requires c κs = search needs
 
--- src/ifs.rt:104:13
 same-length : tie.Need-same-length Inv-loop μ-loop
 same-length c = search needs
 
--- src/ifs.rt:104:13
 same-length-2 : tie.Need-same-length-2 Inv-loop μ-loop
 same-length-2 c = search needs
 
--- src/ifs.rt:104:13
 returns : tie.Need-returns Inv-loop μ-loop
 returns c = sweep-deep ifTried _+_ _ _ _ _ _ _ (c .before .before .before .before .before .before .before .before .loop-test .taken) (c .before .before .before .before .before .before .before .before .before .loop .inv .0) _ _ _ (c .before .before .before .before .before .try-if .ensures) (c .if1 .taken) ∙ sym (c .before .before .before .before .before .before .before .before .before .loop .inv .5)
 
--- src/ifs.rt:106:9
 add-rest : tie.Need-add-rest Inv-loop μ-loop
 add-rest c = omega (arith, if-room 18446744073709551615 _ _ _ _ _ _ _ (c .before .before .before .before .before .try-if .ensures) (c .if1 .left) (c .before .before .before .before .before .before .before .before .before .loop .inv .1) (omega (arith, c .before .before .before .before .before .before .before .before .before .loop .inv .3)))
 
--- src/ifs.rt:107:9
 add-regions : tie.Need-add-regions Inv-loop μ-loop
 add-regions c = omega (arith, if-room 18446744073709551615 _ _ _ _ _ _ _ (c .before .before .before .before .before .try-if .ensures) (c .if1 .left) (c .before .before .before .before .before .before .before .before .before .loop .inv .1) (omega (arith, c .before .before .before .before .before .before .before .before .before .loop .inv .3)))
 
--- src/ifs.rt:108:9
 add-k : tie.Need-add-k Inv-loop μ-loop
 add-k c = search needs
 
--- src/ifs.rt:101:5
 loop-less : tie.Need-loop-less Inv-loop μ-loop
 loop-less c = search needs
 
--- src/ifs.rt:101:5
 loop-again : tie.Need-loop-again Inv-loop μ-loop
 loop-again c = let l = c .before .before .before .before .before .before .before .before .before .loop in
     let t = c .before .before .before .before .before .try-if in
@@ -68,15 +58,12 @@ loop-again c = let l = c .before .before .before .before .before .before .before
       l .inv .5 ∙ sweep-on ifTried _+_ _ _ _ _ _ _ (c .before .before .before .before .before .before .before .before .loop-test .taken) (l .inv .0) _ _ _ (t .ensures) (c .if1 .left),
     )
 
--- src/ifs.rt:94:1
 same-length-3 : tie.Need-same-length-3 Inv-loop μ-loop
 same-length-3 c = search needs
 
--- src/ifs.rt:94:1
 same-length-4 : tie.Need-same-length-4 Inv-loop μ-loop
 same-length-4 c = search needs
 
--- src/ifs.rt:94:1
 returns-2 : tie.Need-returns-2 Inv-loop μ-loop
 returns-2 c = sweep-stop ifTried _+_ _ _ _ _ _ _ (c .loop-test .left) ∙ sym (c .before .loop .inv .5)
 

@@ -11,76 +11,58 @@ use Rattle.passes.proofs.ifs.form_if.Reads as form-if-reads
 use Rattle.passes.proofs.ifs.if_goal.Reads as if-goal-reads
 use Rattle.passes.proofs.spans.note.Reads as note-reads
 
--- src/ifs.rt:78:9
 if-goal-requires : tie.Need-if-goal-requires
 if-goal-requires c κs = search needs
 
--- src/ifs.rt:80:9
 same-length : tie.Need-same-length
 same-length c = search needs
 
--- src/ifs.rt:80:9
 same-length-2 : tie.Need-same-length-2
 same-length-2 c = search needs
 
--- src/ifs.rt:80:9
 returns : tie.Need-returns
 returns c = if-try-none _ _ _ _ _ (c .before .if-goal .ensures) (c .if1 .taken)
 
--- src/ifs.rt:82:22
 add-deep-in : tie.Need-add-deep-in
 add-deep-in c = search needs
 
--- src/ifs.rt:82:8
 deep-in-requires : tie.Need-deep-in-requires
 deep-in-requires c κs = search needs
 
--- src/ifs.rt:83:9
 same-length-3 : tie.Need-same-length-3
 same-length-3 c = search needs
 
--- src/ifs.rt:83:9
 same-length-4 : tie.Need-same-length-4
 same-length-4 c = search needs
 
--- src/ifs.rt:83:9
 returns-2 : tie.Need-returns-2
 returns-2 c = if-try-deep _ _ _ _ _ (c .before .before .before .before .if-goal .ensures) (c .before .before .before .if1 .left) _ (c .before .deep-in .ensures) (c .if2 .taken)
 
--- src/ifs.rt:86:9
 same-length-5 : tie.Need-same-length-5
 same-length-5 c = search needs
 
--- src/ifs.rt:86:9
 same-length-6 : tie.Need-same-length-6
 same-length-6 c = search needs
 
--- src/ifs.rt:86:9
 returns-3 : tie.Need-returns-3
 returns-3 c = if-try-full _ _ _ _ _ (c .before .before .before .before .before .if-goal .ensures) (c .before .before .before .before .if1 .left) _ (c .before .before .deep-in .ensures) (c .before .if2 .left) (c .if3 .taken)
 
--- src/ifs.rt:88:5
 form-if-requires : tie.Need-form-if-requires
 form-if-requires c κs = let a = if-after _ _ _ _ _ (c .before .before .before .before .before .before .before .before .before .before .before .pre) (c .before .before .before .before .before .before .if-goal .ensures) (c .before .before .before .before .before .if1 .left) in
     (a .0, a .1, omega arith)
 
--- src/ifs.rt:89:23
 add-note : tie.Need-add-note
 add-note c = search needs
 
--- src/ifs.rt:89:5
 note-requires : tie.Need-note-requires
 note-requires c κs = search needs
 
--- src/ifs.rt:74:1
 same-length-7 : tie.Need-same-length-7
 same-length-7 c = search needs
 
--- src/ifs.rt:74:1
 same-length-8 : tie.Need-same-length-8
 same-length-8 c = search needs
 
--- src/ifs.rt:74:1
 returns-4 : tie.Need-returns-4
 returns-4 c = if-try-formed _ _ _ _ _ (c .before .before .before .before .before .before .before .before .before .before .before .before .before .before .if-goal .ensures) (c .before .before .before .before .before .before .before .before .before .before .before .before .before .if1 .left) _ (c .before .before .before .before .before .before .before .before .before .before .before .deep-in .ensures) (c .before .before .before .before .before .before .before .before .before .before .if2 .left) (omega arith) _ _ (c .before .before .before .before .before .before .before .form-if .ensures) (c .before .before .note .ensures)
 

@@ -14,77 +14,59 @@ use Rattle.passes.proofs.rows.row_at.Reads as row-at-reads
 use Rattle.passes.proofs.spans.is_outside.Reads as is-outside-reads
 use Rattle.passes.proofs.spans.reached.Reads as reached-reads
 
--- src/loops.rt:57:9
 row-at-requires : tie.Need-row-at-requires
 row-at-requires c κs = search needs
 
--- src/loops.rt:58:8
 kind-of-requires : tie.Need-kind-of-requires
 kind-of-requires c κs = search needs
 
--- src/loops.rt:59:9
 returns : tie.Need-returns
 returns c = do-no _ _ _ _ _ (c .before .before .row-at .ensures) _ (c .before .kind-of .ensures) (c .if1 .taken)
 
--- src/loops.rt:61:9
 name-of-requires : tie.Need-name-of-requires
 name-of-requires c κs = search needs
 
--- src/loops.rt:62:32
 add-last-back : tie.Need-add-last-back
 add-last-back c = search needs
 
--- src/loops.rt:62:42
 indent-of-requires : tie.Need-indent-of-requires
 indent-of-requires c κs = search needs
 
--- src/loops.rt:62:42
 add-last-back-2 : tie.Need-add-last-back-2
 add-last-back-2 c = omega (arith, indent-small (c .before .before .before .before .row-at .result))
 
--- src/loops.rt:62:9
 last-back-requires : tie.Need-last-back-requires
 last-back-requires c κs = search needs
 
--- src/loops.rt:64:9
 returns-2 : tie.Need-returns-2
 returns-2 c = do-none _ _ _ _ _ (c .before .before .before .before .before .before .row-at .ensures) _ (c .before .before .before .before .before .kind-of .ensures) (c .before .before .before .before .if1 .left) _ _ (c .before .before .before .name-of .ensures) (c .before .before .indent-of .ensures) _ (c .before .last-back .ensures) (c .if2 .taken)
 
--- src/loops.rt:66:19
 row-at-requires-2 : tie.Need-row-at-requires-2
 row-at-requires-2 c κs = search needs
 
--- src/loops.rt:66:49
 add-is-outside : tie.Need-add-is-outside
 add-is-outside c = omega (arith, back-below _ _ _ _ _ _ (omega arith) (c .before .before .last-back .ensures) (c .before .if2 .left))
 
--- src/loops.rt:66:8
 is-outside-requires : tie.Need-is-outside-requires
 is-outside-requires c κs = search needs
 
--- src/loops.rt:67:9
 returns-3 : tie.Need-returns-3
 returns-3 c = do-aimed _ _ _ _ _ (c .before .before .before .before .before .before .before .before .before .row-at .ensures) _ (c .before .before .before .before .before .before .before .before .kind-of .ensures) (c .before .before .before .before .before .before .before .if1 .left) _ _ (c .before .before .before .before .before .before .name-of .ensures) (c .before .before .before .before .before .indent-of .ensures) _ (c .before .before .before .before .last-back .ensures)
     _ (c .before .before .row-at2 .ensures) _ (c .before .is-outside .ensures) (c .if3 .taken)
 
--- src/loops.rt:69:29
 add-reached : tie.Need-add-reached
 add-reached c = search needs
 
--- src/loops.rt:69:42
 add-reached-2 : tie.Need-add-reached-2
 add-reached-2 c = omega (arith, back-below _ _ _ _ _ _ (omega arith) (c .before .before .before .before .last-back .ensures) (c .before .before .before .if2 .left))
 
--- src/loops.rt:69:8
 reached-requires : tie.Need-reached-requires
 reached-requires c κs = search needs
 
--- src/loops.rt:70:9
 returns-4 : tie.Need-returns-4
 returns-4 c = do-reached _ _ _ _ _ (c .before .before .before .before .before .before .before .before .before .before .before .row-at .ensures) _ (c .before .before .before .before .before .before .before .before .before .before .kind-of .ensures) (c .before .before .before .before .before .before .before .before .before .if1 .left) _ _ (c .before .before .before .before .before .before .before .before .name-of .ensures) (c .before .before .before .before .before .before .before .indent-of .ensures) _ (c .before .before .before .before .before .before .last-back .ensures)
     _ (c .before .before .before .before .row-at2 .ensures) _ (c .before .before .before .is-outside .ensures) _ (c .before .reached .ensures) (c .if4 .taken)
 
--- src/loops.rt:53:1
 returns-5 : tie.Need-returns-5
 returns-5 c = do-yes _ _ _ _ _ (c .before .before .before .before .before .before .before .before .before .before .before .row-at .ensures) _ (c .before .before .before .before .before .before .before .before .before .before .kind-of .ensures) (c .before .before .before .before .before .before .before .before .before .if1 .left) _ _ (c .before .before .before .before .before .before .before .before .name-of .ensures) (c .before .before .before .before .before .before .before .indent-of .ensures) _ (c .before .before .before .before .before .before .last-back .ensures)
     _ (c .before .before .before .before .row-at2 .ensures) _ (c .before .before .before .is-outside .ensures) _ (c .before .reached .ensures) (c .before .before .before .before .before .if2 .left) (c .before .before .if3 .left) (c .if4 .left)

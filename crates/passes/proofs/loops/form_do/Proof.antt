@@ -12,55 +12,42 @@ use Rattle.passes.proofs.forming.turn.Reads as turn-reads
 use Rattle.passes.proofs.forming.up.Reads as up-reads
 use Rattle.passes.proofs.rows.row_at.Reads as row-at-reads
 
--- src/loops.rt:80:9
 row-at-requires : tie.Need-row-at-requires
 row-at-requires c κs = search needs
 
--- src/loops.rt:81:9
 row-at-requires-2 : tie.Need-row-at-requires-2
 row-at-requires-2 c κs = search needs
 
--- src/loops.rt:82:20
 up-requires : tie.Need-up-requires
 up-requires c κs = search needs
 
--- src/loops.rt:82:15
 turn-requires : tie.Need-turn-requires
 turn-requires c κs = search needs
 
--- src/loops.rt:82:5
 mul-rows : tie.Need-mul-rows
 mul-rows c = search needs
 
--- src/loops.rt:82:5
 slice-write-rows : tie.Need-slice-write-rows
 slice-write-rows c = search needs
 
--- src/loops.rt:83:17
 add-raise : tie.Need-add-raise
 add-raise c = search needs
 
--- src/loops.rt:83:5
 raise-requires : tie.Need-raise-requires
 raise-requires c κs = (omega arith, omega (arith, length-set (c .before .before .before .before .before .before .before .before .args .rows .now) (c .before .before .before .before .before .before .before .before .args .k) (c .before .turn .result)))
 
--- src/loops.rt:84:15
 turn-requires-2 : tie.Need-turn-requires-2
 turn-requires-2 c κs = search needs
 
--- src/loops.rt:84:5
 mul-rows-2 : tie.Need-mul-rows-2
 mul-rows-2 c = search needs
 
--- src/loops.rt:84:5
 slice-write-rows-2 : tie.Need-slice-write-rows-2
 slice-write-rows-2 c = search needs
 
--- src/loops.rt:76:1
 same-length : tie.Need-same-length
 same-length c = length-set (c .before .before .before .raise .last .0) (c .before .before .before .before .before .before .before .before .before .before .before .before .args .j) (c .turn2 .result) ∙ c .before .before .before .raise .kept .0 ∙ length-set (c .before .before .before .before .before .before .before .before .before .before .before .before .args .rows .now) (c .before .before .before .before .before .before .before .before .before .before .before .before .args .k) (c .before .before .before .before .before .turn .result)
 
--- src/loops.rt:76:1
 returns : tie.Need-returns
 returns c = form-do _ _ _ _ _ _ _ _ _ (c .before .before .before .before .before .before .before .before .before .row-at .ensures) (c .before .before .before .before .before .before .before .row-at2 .ensures) (c .before .before .before .before .before .before .up .ensures) (c .before .before .before .before .before .turn .ensures) (c .before .before .before .raise .ensures) (c .turn2 .ensures)
 

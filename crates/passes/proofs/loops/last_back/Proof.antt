@@ -17,39 +17,30 @@ Inv-loop rows n i m d last₀ j₀ last j = backFrom n m d rows i (n - i) ≡ un
 abbrev μ-loop : tie.MeasureT-loop
 μ-loop rows n i m d last₀ j₀ last j = n - j
 
--- src/loops.rt:41:5
 loop-holds : tie.Need-loop-holds Inv-loop μ-loop
 loop-holds c = back-start _ _
 
--- src/loops.rt:42:28
 row-at-requires : tie.Need-row-at-requires Inv-loop μ-loop
 row-at-requires c κs = search needs
 
--- src/loops.rt:42:13
 judge-back-requires : tie.Need-judge-back-requires Inv-loop μ-loop
 judge-back-requires c κs = search needs
 
--- src/loops.rt:44:13
 returns : tie.Need-returns Inv-loop μ-loop
 returns c = back-ended _ _ _ _ _ _ (c .before .before .before .loop-test .taken) _ (c .before .before .row-at .ensures) _ (c .before .judge-back .ensures) (c .if1 .taken) ∙ sym (c .before .before .before .before .loop .inv)
 
--- src/loops.rt:46:9
 later-requires : tie.Need-later-requires Inv-loop μ-loop
 later-requires c κs = search needs
 
--- src/loops.rt:47:9
 add-j : tie.Need-add-j Inv-loop μ-loop
 add-j c = search needs
 
--- src/loops.rt:41:5
 loop-less : tie.Need-loop-less Inv-loop μ-loop
 loop-less c = search needs
 
--- src/loops.rt:41:5
 loop-again : tie.Need-loop-again Inv-loop μ-loop
 loop-again c = c .before .before .before .before .before .loop .inv ∙ back-on _ _ _ _ _ _ (c .before .before .before .before .loop-test .taken) _ (c .before .before .before .row-at .ensures) _ (c .before .before .judge-back .ensures) (c .before .if1 .left) _ (c .later .ensures)
 
--- src/loops.rt:36:1
 returns-2 : tie.Need-returns-2 Inv-loop μ-loop
 returns-2 c = back-none _ _ _ _ _ _ (c .loop-test .left) ∙ sym (c .before .loop .inv)
 

@@ -4,11 +4,9 @@ use Rattle.passes.proofs.loops.later.Tie as tie
 use Rattle.passes.proofs.loops.later.Reads as reads
 use Rattle.passes.proofs.loops.later.Lts as lts
 
--- src/loops.rt:30:9
 returns : tie.Need-returns
 returns c = simp (eq-eqb _ 1 (c .if1 .taken))
 
--- src/loops.rt:26:1
 returns-2 : tie.Need-returns-2
 returns-2 c = simp (ne-eqb _ 1 (c .if1 .left))
 

@@ -7,23 +7,18 @@ use Rattle.passes.proofs.loops.structure_do_while.Lts as lts
 use Rattle.passes.proofs.loops.sweep_do.Reads as sweep-do-reads
 use Rattle.passes.proofs.spans.note.Reads as note-reads
 
--- src/loops.rt:132:5
 note-requires : tie.Need-note-requires
 note-requires c κs = search needs
 
--- src/loops.rt:133:5
 sweep-do-requires : tie.Need-sweep-do-requires
 sweep-do-requires c κs = search needs
 
--- src/loops.rt:129:1
 same-length : tie.Need-same-length
 same-length c = search needs
 
--- src/loops.rt:129:1
 same-length-2 : tie.Need-same-length-2
 same-length-2 c = search needs
 
--- src/loops.rt:129:1
 returns : tie.Need-returns
 returns c = do-pass _ _ _ _ _ (c .before .before .before .before .before .before .before .before .before .note .ensures) (c .before .before .before .before .sweep-do .ensures)
 

@@ -18,39 +18,30 @@ Inv-loop rows₀ spans₀ n regions₀ k₀ rows spans regions k = (regions ≤ 
 abbrev μ-loop : tie.MeasureT-loop
 μ-loop rows₀ spans₀ n regions₀ k₀ rows spans regions k = n - k
 
--- src/loops.rt:114:5
 loop-holds : tie.Need-loop-holds Inv-loop μ-loop
 loop-holds c = (omega arith, refl, refl, sweep-start doTried keeps _ _ _ _)
 
--- src/loops.rt:115:13
 try-do-requires : tie.Need-try-do-requires Inv-loop μ-loop
 try-do-requires c κs = search needs
 
--- src/loops.rt:117:13
 same-length : tie.Need-same-length Inv-loop μ-loop
 same-length c = search needs
 
--- src/loops.rt:117:13
 same-length-2 : tie.Need-same-length-2 Inv-loop μ-loop
 same-length-2 c = search needs
 
--- src/loops.rt:117:13
 returns : tie.Need-returns Inv-loop μ-loop
 returns c = sweep-deep doTried keeps _ _ _ _ _ _ (c .before .before .before .before .before .before .before .before .loop-test .taken) (omega arith) _ _ _ (c .before .before .before .before .before .try-do .ensures) (c .if1 .taken) ∙ sym (c .before .before .before .before .before .before .before .before .before .loop .inv .3)
 
--- src/loops.rt:119:9
 add-regions : tie.Need-add-regions Inv-loop μ-loop
 add-regions c = omega (arith, do-tells _ _ _ _ _ _ _ (c .before .before .before .before .before .try-do .ensures), c .before .before .before .before .before .before .before .before .before .loop .inv .0)
 
--- src/loops.rt:120:9
 add-k : tie.Need-add-k Inv-loop μ-loop
 add-k c = search needs
 
--- src/loops.rt:114:5
 loop-less : tie.Need-loop-less Inv-loop μ-loop
 loop-less c = search needs
 
--- src/loops.rt:114:5
 loop-again : tie.Need-loop-again Inv-loop μ-loop
 loop-again c = let l = c .before .before .before .before .before .before .before .before .before .loop in
     let t = c .before .before .before .before .before .try-do in
@@ -61,15 +52,12 @@ loop-again c = let l = c .before .before .before .before .before .before .before
       l .inv .3 ∙ sweep-on doTried keeps _ _ _ _ _ _ (c .before .before .before .before .before .before .before .before .loop-test .taken) (omega arith) _ _ _ (t .ensures) (c .if1 .left),
     )
 
--- src/loops.rt:108:1
 same-length-3 : tie.Need-same-length-3 Inv-loop μ-loop
 same-length-3 c = search needs
 
--- src/loops.rt:108:1
 same-length-4 : tie.Need-same-length-4 Inv-loop μ-loop
 same-length-4 c = search needs
 
--- src/loops.rt:108:1
 returns-2 : tie.Need-returns-2 Inv-loop μ-loop
 returns-2 c = sweep-stop doTried keeps _ _ _ _ _ _ (c .loop-test .left) ∙ sym (c .before .loop .inv .3)
 

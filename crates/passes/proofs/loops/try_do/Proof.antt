@@ -11,71 +11,54 @@ use Rattle.passes.proofs.loops.do_goal.Reads as do-goal-reads
 use Rattle.passes.proofs.loops.form_do.Reads as form-do-reads
 use Rattle.passes.proofs.spans.note.Reads as note-reads
 
--- src/loops.rt:92:9
 do-goal-requires : tie.Need-do-goal-requires
 do-goal-requires c κs = search needs
 
--- src/loops.rt:94:9
 same-length : tie.Need-same-length
 same-length c = search needs
 
--- src/loops.rt:94:9
 same-length-2 : tie.Need-same-length-2
 same-length-2 c = search needs
 
--- src/loops.rt:94:9
 returns : tie.Need-returns
 returns c = do-try-none _ _ _ _ _ (c .before .do-goal .ensures) (c .if1 .taken)
 
--- src/loops.rt:96:22
 add-deep-in : tie.Need-add-deep-in
 add-deep-in c = search needs
 
--- src/loops.rt:96:8
 deep-in-requires : tie.Need-deep-in-requires
 deep-in-requires c κs = search needs
 
--- src/loops.rt:97:9
 same-length-3 : tie.Need-same-length-3
 same-length-3 c = search needs
 
--- src/loops.rt:97:9
 same-length-4 : tie.Need-same-length-4
 same-length-4 c = search needs
 
--- src/loops.rt:97:9
 returns-2 : tie.Need-returns-2
 returns-2 c = do-try-deep _ _ _ _ _ (c .before .before .before .before .do-goal .ensures) (c .before .before .before .if1 .left) _ (c .before .deep-in .ensures) (c .if2 .taken)
 
--- src/loops.rt:100:9
 same-length-5 : tie.Need-same-length-5
 same-length-5 c = search needs
 
--- src/loops.rt:100:9
 same-length-6 : tie.Need-same-length-6
 same-length-6 c = search needs
 
--- src/loops.rt:100:9
 returns-3 : tie.Need-returns-3
 returns-3 c = do-try-full _ _ _ _ _ (c .before .before .before .before .before .do-goal .ensures) (c .before .before .before .before .if1 .left) _ (c .before .before .deep-in .ensures) (c .before .if2 .left) (c .if3 .taken)
 
--- src/loops.rt:102:5
 form-do-requires : tie.Need-form-do-requires
 form-do-requires c κs = (do-after _ _ _ _ _ (c .before .before .before .before .before .before .before .before .before .before .before .pre) (c .before .before .before .before .before .before .do-goal .ensures) (c .before .before .before .before .before .if1 .left), omega arith)
 
--- src/loops.rt:103:5
 note-requires : tie.Need-note-requires
 note-requires c κs = search needs
 
--- src/loops.rt:88:1
 same-length-7 : tie.Need-same-length-7
 same-length-7 c = search needs
 
--- src/loops.rt:88:1
 same-length-8 : tie.Need-same-length-8
 same-length-8 c = search needs
 
--- src/loops.rt:88:1
 returns-4 : tie.Need-returns-4
 returns-4 c = do-try-formed _ _ _ _ _ (c .before .before .before .before .before .before .before .before .before .before .before .before .before .before .do-goal .ensures) (c .before .before .before .before .before .before .before .before .before .before .before .before .before .if1 .left) _ (c .before .before .before .before .before .before .before .before .before .before .before .deep-in .ensures) (c .before .before .before .before .before .before .before .before .before .before .if2 .left) (omega arith) _ _ (c .before .before .before .before .before .before .before .form-do .ensures) (c .before .before .note .ensures)
 

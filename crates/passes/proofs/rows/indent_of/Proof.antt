@@ -5,7 +5,6 @@ use Rattle.passes.proofs.rows.indent_of.Tie as tie
 use Rattle.passes.proofs.rows.indent_of.Reads as reads
 use Rattle.passes.proofs.rows.indent_of.Lts as lts
 
--- src/rows.rt:29:1
 returns : tie.Need-returns
 unfolding indentOf
 returns c = refl

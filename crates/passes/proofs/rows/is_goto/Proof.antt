@@ -7,15 +7,12 @@ use Rattle.passes.proofs.rows.is_goto.Reads as reads
 use Rattle.passes.proofs.rows.is_goto.Lts as lts
 use Rattle.passes.proofs.rows.kind_of.Reads as kind-of-reads
 
--- src/rows.rt:45:9
 kind-of-requires : tie.Need-kind-of-requires
 kind-of-requires c κs = search needs
 
--- src/rows.rt:47:9
 returns : tie.Need-returns
 returns c = goto-cond _ (cc)
 
--- src/rows.rt:42:1
 returns-2 : tie.Need-returns-2
 returns-2 c = goto-jump _ _ _ (c .before .kind-of .ensures) (c .if1 .left) refl
 

@@ -9,39 +9,30 @@ use Rattle.passes.proofs.rows.indent_of.Reads as indent-of-reads
 use Rattle.passes.proofs.rows.kind_of.Reads as kind-of-reads
 use Rattle.passes.proofs.rows.name_of.Reads as name-of-reads
 
--- src/rows.rt:56:9
 indent-of-requires : tie.Need-indent-of-requires
 indent-of-requires c κs = search needs
 
--- src/rows.rt:58:9
 returns : tie.Need-returns
 returns c = judge-deep _ _ _ _ (c .before .indent-of .ensures) (omega arith)
 
--- src/rows.rt:60:8
 add-if2 : tie.Need-add-if2
 add-if2 c = search needs
 
--- src/rows.rt:61:9
 returns-2 : tie.Need-returns-2
 returns-2 c = judge-far _ _ _ _ (c .before .before .indent-of .ensures) (omega arith) (c .if2 .taken)
 
--- src/rows.rt:63:8
 kind-of-requires : tie.Need-kind-of-requires
 kind-of-requires c κs = search needs
 
--- src/rows.rt:64:9
 returns-3 : tie.Need-returns-3
 returns-3 c = judge-other _ _ _ _ (c .before .before .before .before .indent-of .ensures) (omega arith) _ (c .before .kind-of .ensures) (c .if3 .taken)
 
--- src/rows.rt:66:8
 name-of-requires : tie.Need-name-of-requires
 name-of-requires c κs = search needs
 
--- src/rows.rt:67:9
 returns-4 : tie.Need-returns-4
 returns-4 c = judge-hit _ _ _ _ (c .before .before .before .before .before .before .indent-of .ensures) (omega arith) _ (c .before .before .before .kind-of .ensures) (c .before .before .if3 .left) _ (c .before .name-of .ensures) (c .if4 .taken)
 
--- src/rows.rt:53:1
 returns-5 : tie.Need-returns-5
 returns-5 c = judge-label _ _ _ _ (c .before .before .before .before .before .before .indent-of .ensures) (omega arith) _ (c .before .before .before .kind-of .ensures) (c .before .before .if3 .left) _ (c .before .name-of .ensures) (c .if4 .left)
 

@@ -9,51 +9,39 @@ use Rattle.passes.proofs.rows.indent_of.Reads as indent-of-reads
 use Rattle.passes.proofs.rows.kind_of.Reads as kind-of-reads
 use Rattle.passes.proofs.rows.name_of.Reads as name-of-reads
 
--- src/rows.rt:76:9
 indent-of-requires : tie.Need-indent-of-requires
 indent-of-requires c κs = search needs
 
--- src/rows.rt:78:12
 add-if2 : tie.Need-add-if2
 add-if2 c = search needs
 
--- src/rows.rt:79:13
 returns : tie.Need-returns
 returns c = back-far _ _ _ _ (c .before .before .indent-of .ensures) (c .before .if1 .taken) (c .if2 .taken)
 
--- src/rows.rt:81:12
 kind-of-requires : tie.Need-kind-of-requires
 kind-of-requires c κs = search needs
 
--- src/rows.rt:82:13
 returns-2 : tie.Need-returns-2
 returns-2 c = back-low _ _ _ _ (c .before .before .before .before .indent-of .ensures) (c .before .before .before .if1 .taken) _ (c .before .kind-of .ensures) (c .if3 .taken)
 
--- src/rows.rt:84:9
 returns-3 : tie.Need-returns-3
 returns-3 c = back-label _ _ _ _ (c .before .before .before .before .indent-of .ensures) (c .before .before .before .if1 .taken) _ (c .before .kind-of .ensures) (omega arith) (c .if3 .left)
 
--- src/rows.rt:87:9
 returns-4 : tie.Need-returns-4
 returns-4 c = back-deep _ _ _ _ (c .before .before .indent-of .ensures) (c .before .if1 .left) (c .if4 .taken)
 
--- src/rows.rt:89:8
 kind-of-requires-2 : tie.Need-kind-of-requires-2
 kind-of-requires-2 c κs = search needs
 
--- src/rows.rt:90:9
 returns-5 : tie.Need-returns-5
 returns-5 c = back-other _ _ _ _ (c .before .before .before .before .indent-of .ensures) (c .before .before .before .if1 .left) _ (c .before .kind-of2 .ensures) (c .if5 .taken)
 
--- src/rows.rt:92:8
 name-of-requires : tie.Need-name-of-requires
 name-of-requires c κs = search needs
 
--- src/rows.rt:93:9
 returns-6 : tie.Need-returns-6
 returns-6 c = back-hit _ _ _ _ (c .before .before .before .before .before .before .indent-of .ensures) (c .before .before .before .before .before .if1 .left) _ (c .before .before .before .kind-of2 .ensures) (c .before .before .if5 .left) _ (c .before .name-of .ensures) (c .before .before .before .before .if4 .left) (c .if6 .taken)
 
--- src/rows.rt:73:1
 returns-7 : tie.Need-returns-7
 returns-7 c = back-name _ _ _ _ (c .before .before .before .before .before .before .indent-of .ensures) (c .before .before .before .before .before .if1 .left) _ (c .before .before .before .kind-of2 .ensures) (c .before .before .if5 .left) _ (c .before .name-of .ensures) (c .if6 .left)
 

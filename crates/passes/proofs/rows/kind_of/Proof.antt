@@ -5,7 +5,6 @@ use Rattle.passes.proofs.rows.kind_of.Tie as tie
 use Rattle.passes.proofs.rows.kind_of.Reads as reads
 use Rattle.passes.proofs.rows.kind_of.Lts as lts
 
--- src/rows.rt:23:1
 returns : tie.Need-returns
 unfolding kindOf
 returns c = refl

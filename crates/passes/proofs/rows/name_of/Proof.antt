@@ -5,7 +5,6 @@ use Rattle.passes.proofs.rows.name_of.Tie as tie
 use Rattle.passes.proofs.rows.name_of.Reads as reads
 use Rattle.passes.proofs.rows.name_of.Lts as lts
 
--- src/rows.rt:35:1
 returns : tie.Need-returns
 unfolding nameOf
 returns c = refl

@@ -8,19 +8,15 @@ use Rattle.passes.proofs.rows.too_deep.Lts as lts
 use Rattle.passes.proofs.rows.indent_of.Reads as indent-of-reads
 use Rattle.passes.proofs.rows.kind_of.Reads as kind-of-reads
 
--- src/rows.rt:76:9
 indent-of-requires : tie.Need-indent-of-requires
 indent-of-requires c κs = search needs
 
--- src/rows.rt:77:8
 kind-of-requires : tie.Need-kind-of-requires
 kind-of-requires c κs = search needs
 
--- src/rows.rt:78:9
 returns : tie.Need-returns
 returns c = deep-label _ _ _ _ (c .before .kind-of .ensures) (c .before .before .indent-of .ensures) (c .if1 .taken) refl
 
--- src/rows.rt:73:1
 returns-2 : tie.Need-returns-2
 returns-2 c = deep-other _ _ _ _ (c .before .kind-of .ensures) (c .before .before .indent-of .ensures) (c .if1 .left) refl
 

@@ -9,27 +9,21 @@ use Rattle.passes.proofs.rows.name_of.Reads as name-of-reads
 use Rattle.passes.proofs.rows.row_at.Reads as row-at-reads
 use Rattle.passes.proofs.spans.is_outside.Reads as is-outside-reads
 
--- src/spans.rt:75:8
 kind-of-requires : tie.Need-kind-of-requires
 kind-of-requires c κs = search needs
 
--- src/spans.rt:76:9
 returns : tie.Need-returns
 returns c = aimed-other _ _ _ _ _ (c .before .kind-of .ensures) (c .if1 .taken)
 
--- src/spans.rt:78:30
 name-of-requires : tie.Need-name-of-requires
 name-of-requires c κs = search needs
 
--- src/spans.rt:78:16
 row-at-requires : tie.Need-row-at-requires
 row-at-requires c κs = search needs
 
--- src/spans.rt:78:5
 is-outside-requires : tie.Need-is-outside-requires
 is-outside-requires c κs = search needs
 
--- src/spans.rt:72:1
 returns-2 : tie.Need-returns-2
 returns-2 c = aimed-label _ _ _ _ _ (c .before .before .before .before .kind-of .ensures) (c .before .before .before .if1 .left) _ _ _ (c .before .before .name-of .ensures) (c .before .row-at .ensures) (c .is-outside .ensures)
 

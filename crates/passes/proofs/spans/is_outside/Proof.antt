@@ -5,15 +5,12 @@ use Rattle.passes.proofs.spans.is_outside.Tie as tie
 use Rattle.passes.proofs.spans.is_outside.Reads as reads
 use Rattle.passes.proofs.spans.is_outside.Lts as lts
 
--- src/spans.rt:63:9
 returns : tie.Need-returns
 returns c = out-none _ _ _ (c .if1 .taken)
 
--- src/spans.rt:66:9
 returns-2 : tie.Need-returns-2
 returns-2 c = out-low _ _ _ (c .before .if1 .left) (c .if2 .taken)
 
--- src/spans.rt:59:1
 returns-3 : tie.Need-returns-3
 returns-3 c = out-high _ _ _ (c .before .if1 .left) (omega arith)
 

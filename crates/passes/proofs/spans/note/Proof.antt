@@ -7,19 +7,15 @@ use Rattle.passes.proofs.spans.note.Lts as lts
 use Rattle.passes.proofs.forming.clear.Reads as clear-reads
 use Rattle.passes.proofs.spans.note_rows.Reads as note-rows-reads
 
--- src/spans.rt:54:5
 clear-requires : tie.Need-clear-requires
 clear-requires c κs = search needs
 
--- src/spans.rt:55:5
 note-rows-requires : tie.Need-note-rows-requires
 note-rows-requires c κs = search needs
 
--- src/spans.rt:50:1
 same-length : tie.Need-same-length
 same-length c = search needs
 
--- src/spans.rt:50:1
 returns : tie.Need-returns
 returns c = spans-anew _ _ _ _ _ (c .before .before .before .before .before .before .clear .ensures) (c .before .before .note-rows .ensures)
 

@@ -9,48 +9,37 @@ use Rattle.passes.proofs.rows.is_goto.Reads as is-goto-reads
 use Rattle.passes.proofs.rows.name_of.Reads as name-of-reads
 use Rattle.passes.proofs.spans.widen.Reads as widen-reads
 
--- src/spans.rt:31:8
 is-goto-requires : tie.Need-is-goto-requires
 is-goto-requires c κs = search needs
 
--- src/spans.rt:32:17
 name-of-requires : tie.Need-name-of-requires
 name-of-requires c κs = search needs
 
--- src/spans.rt:34:30
 mul-widen : tie.Need-mul-widen
 mul-widen c = search needs
 
--- src/spans.rt:34:30
 slice-read-widen : tie.Need-slice-read-widen
 slice-read-widen c = search needs
 
--- src/spans.rt:34:24
 widen-requires : tie.Need-widen-requires
 widen-requires c κs = search needs
 
--- src/spans.rt:34:13
 mul-spans : tie.Need-mul-spans
 mul-spans c = search needs
 
--- src/spans.rt:34:13
 slice-write-spans : tie.Need-slice-write-spans
 slice-write-spans c = search needs
 
--- src/spans.rt:28:1
 same-length : tie.Need-same-length
 same-length c = search needs
 
--- src/spans.rt:28:1
 returns : tie.Need-returns
 unfolding at
 returns c = note-in _ _ _ _ _ _ (c .before .before .before .before .before .is-goto .ensures) (c .before .before .before .before .if1 .taken) (c .before .before .before .name-of .ensures) (c .widen .ensures)
 
--- src/spans.rt:28:1
 returns-2 : tie.Need-returns-2
 returns-2 c = note-out _ _ _ _ _ (c .before .before .before .is-goto .ensures) (c .before .before .if1 .taken) (c .before .name-of .ensures) (c .if2 .left)
 
--- src/spans.rt:28:1
 returns-3 : tie.Need-returns-3
 returns-3 c = note-other _ _ _ _ (c .before .is-goto .ensures) (c .if1 .left)
 

@@ -17,35 +17,27 @@ Inv-loop rows spans₀ n i₀ spans i = (length spans ≡ length spans₀) × (n
 abbrev μ-loop : tie.MeasureT-loop
 μ-loop rows spans₀ n i₀ spans i = n - i
 
--- src/spans.rt:43:5
 loop-holds : tie.Need-loop-holds Inv-loop μ-loop
 loop-holds c = (refl, note-start _ _ _)
 
--- src/spans.rt:44:25
 row-at-requires : tie.Need-row-at-requires Inv-loop μ-loop
 row-at-requires c κs = search needs
 
--- src/spans.rt:44:9
 note-row-requires : tie.Need-note-row-requires Inv-loop μ-loop
 note-row-requires c κs = search needs
 
--- src/spans.rt:45:9
 add-i : tie.Need-add-i Inv-loop μ-loop
 add-i c = search needs
 
--- src/spans.rt:43:5
 loop-less : tie.Need-loop-less Inv-loop μ-loop
 loop-less c = search needs
 
--- src/spans.rt:43:5
 loop-again : tie.Need-loop-again Inv-loop μ-loop
 loop-again c = (c .before .before .note-row .kept .0 ∙ c .before .before .before .before .before .before .loop .inv .0, c .before .before .before .before .before .before .loop .inv .1 ∙ note-turn _ _ _ _ (c .before .before .before .before .before .loop-test .taken) _ (c .before .before .before .row-at .ensures) _ (c .before .before .note-row .ensures))
 
--- src/spans.rt:39:1
 same-length : tie.Need-same-length Inv-loop μ-loop
 same-length c = search needs
 
--- src/spans.rt:39:1
 returns : tie.Need-returns Inv-loop μ-loop
 returns c = sym (c .before .loop .inv .1 ∙ note-end _ _ _ _ (c .loop-test .left))
 

@@ -18,36 +18,28 @@ Inv-loop rows spans i j a b k₀ k = reachedIn rows spans i j a b ≡ someRow (a
 abbrev μ-loop : tie.MeasureT-loop
 μ-loop rows spans i j a b k₀ k = j - k
 
--- src/spans.rt:86:5
 loop-holds : tie.Need-loop-holds Inv-loop μ-loop
 unfolding reachedIn
 loop-holds c = refl
 
--- src/spans.rt:87:35
 row-at-requires : tie.Need-row-at-requires Inv-loop μ-loop
 row-at-requires c κs = search needs
 
--- src/spans.rt:87:12
 aimed-out-requires : tie.Need-aimed-out-requires Inv-loop μ-loop
 aimed-out-requires c κs = search needs
 
--- src/spans.rt:88:13
 returns : tie.Need-returns Inv-loop μ-loop
 returns c = some-hit _ _ _ _ (c .before .before .before .loop-test .taken) _ (c .before .before .row-at .ensures) _ (c .before .aimed-out .ensures) (c .if1 .taken) ∙ sym (c .before .before .before .before .loop .inv)
 
--- src/spans.rt:90:9
 add-k : tie.Need-add-k Inv-loop μ-loop
 add-k c = search needs
 
--- src/spans.rt:86:5
 loop-less : tie.Need-loop-less Inv-loop μ-loop
 loop-less c = search needs
 
--- src/spans.rt:86:5
 loop-again : tie.Need-loop-again Inv-loop μ-loop
 loop-again c = c .before .before .before .before .loop .inv ∙ some-on _ _ _ _ (c .before .before .before .loop-test .taken) _ (c .before .before .row-at .ensures) _ (c .before .aimed-out .ensures) (c .if1 .left)
 
--- src/spans.rt:82:1
 returns-2 : tie.Need-returns-2 Inv-loop μ-loop
 returns-2 c = some-none _ _ _ _ (c .loop-test .left) ∙ sym (c .before .loop .inv)
 

@@ -9,55 +9,42 @@ use Rattle.room.proofs.place.ready.Reads as ready-reads
 use Rattle.room.proofs.place.stop.Reads as stop-reads
 use Rattle.room.proofs.place.token.Reads as token-reads
 
--- src/from_file.rt:62:8
 ready-requires : tie.Need-ready-requires
 ready-requires c κs = search needs
 
--- src/from_file.rt:64:33
 sub-part-behind : tie.Need-sub-part-behind
 sub-part-behind c = let a = c .before .before .before .before .before .before .args in ready-rest (a .tokens .now) (a .text .now) (a .out) 3 _ (c .before .ready .ensures) (c .if1 .taken)
 
--- src/from_file.rt:64:33
 part-part-behind-start : tie.Need-part-part-behind-start
 part-part-behind-start c = let a = c .before .before .before .before .before .before .args in ready-rest (a .tokens .now) (a .text .now) (a .out) 3 _ (c .before .ready .ensures) (c .if1 .taken)
 
--- src/from_file.rt:64:33
 part-part-behind-end : tie.Need-part-part-behind-end
 part-part-behind-end c = search needs
 
--- src/from_file.rt:64:52
 slice-aggregate-part-behind : tie.Need-slice-aggregate-part-behind
 slice-aggregate-part-behind c = search needs
 
--- src/from_file.rt:64:13
 part-behind-requires : tie.Need-part-behind-requires
 part-behind-requires c κs = search needs
 
--- src/from_file.rt:65:9
 token-requires : tie.Need-token-requires
 token-requires c κs = let a = c .before .before .before .before .before .before .before .before .before .before .before .before .args in placeable (a .tokens .now) (a .text .now) (a .out) 3 _ (c .before .before .before .before .before .before .before .ready .ensures) (c .before .before .before .before .before .before .if1 .taken) _ _ _ (c .before .before .before .part-behind .ensures)
 
--- src/from_file.rt:65:9
 same-length : tie.Need-same-length
 same-length c = search needs
 
--- src/from_file.rt:65:9
 same-length-2 : tie.Need-same-length-2
 same-length-2 c = search needs
 
--- src/from_file.rt:65:9
 returns : tie.Need-returns
 returns c = let a = c .before .before .before .before .before .before .before .before .before .before .before .before .before .before .before .args in leaf-emit (a .tokens .now) (a .text .now) (a .out) 3 _ (c .before .before .before .before .before .before .before .before .before .before .ready .ensures) (c .before .before .before .before .before .before .before .before .before .if1 .taken) _ _ _ (c .before .before .before .before .before .before .part-behind .ensures) _ _ (c .before .before .token .ensures)
 
--- src/from_file.rt:67:5
 stop-requires : tie.Need-stop-requires
 stop-requires c κs = search needs
 
--- src/from_file.rt:58:1
 same-length-3 : tie.Need-same-length-3
 same-length-3 c = search needs
 
--- src/from_file.rt:58:1
 returns-2 : tie.Need-returns-2
 returns-2 c = let a = c .before .before .before .before .before .before .before .args in emit-not (a .tokens .now) (a .text .now) (a .out) 3 _ _ _ (c .before .before .ready .ensures) (c .before .if1 .left) (c .stop .ensures)
 

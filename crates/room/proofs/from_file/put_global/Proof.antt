@@ -9,51 +9,39 @@ use Rattle.room.proofs.place.stop.Reads as stop-reads
 use Rattle.room.proofs.place.token.Reads as token-reads
 use Rattle.text.proofs.names.global_name.Reads as global-name-reads
 
--- src/from_file.rt:49:8
 ready-requires : tie.Need-ready-requires
 ready-requires c κs = search needs
 
--- src/from_file.rt:51:33
 sub-global-name : tie.Need-sub-global-name
 sub-global-name c = let a = c .before .before .before .before .before .before .args in ready-rest (a .tokens .now) (a .text .now) (a .out) 4 _ (c .before .ready .ensures) (c .if1 .taken)
 
--- src/from_file.rt:51:33
 part-global-name-start : tie.Need-part-global-name-start
 part-global-name-start c = let a = c .before .before .before .before .before .before .args in ready-rest (a .tokens .now) (a .text .now) (a .out) 4 _ (c .before .ready .ensures) (c .if1 .taken)
 
--- src/from_file.rt:51:33
 part-global-name-end : tie.Need-part-global-name-end
 part-global-name-end c = search needs
 
--- src/from_file.rt:51:13
 global-name-requires : tie.Need-global-name-requires
 global-name-requires c κs = search needs
 
--- src/from_file.rt:52:9
 token-requires : tie.Need-token-requires
 token-requires c κs = let a = c .before .before .before .before .before .before .before .before .before .before .before .args in placeable (a .tokens .now) (a .text .now) (a .out) 4 _ (c .before .before .before .before .before .before .ready .ensures) (c .before .before .before .before .before .if1 .taken) _ _ _ (c .before .before .before .global-name .ensures)
 
--- src/from_file.rt:52:9
 same-length : tie.Need-same-length
 same-length c = search needs
 
--- src/from_file.rt:52:9
 same-length-2 : tie.Need-same-length-2
 same-length-2 c = search needs
 
--- src/from_file.rt:52:9
 returns : tie.Need-returns
 returns c = let a = c .before .before .before .before .before .before .before .before .before .before .before .before .before .before .args in leaf-emit (a .tokens .now) (a .text .now) (a .out) 4 _ (c .before .before .before .before .before .before .before .before .before .ready .ensures) (c .before .before .before .before .before .before .before .before .if1 .taken) _ _ _ (c .before .before .before .before .before .before .global-name .ensures) _ _ (c .before .before .token .ensures)
 
--- src/from_file.rt:54:5
 stop-requires : tie.Need-stop-requires
 stop-requires c κs = search needs
 
--- src/from_file.rt:45:1
 same-length-3 : tie.Need-same-length-3
 same-length-3 c = search needs
 
--- src/from_file.rt:45:1
 returns-2 : tie.Need-returns-2
 returns-2 c = let a = c .before .before .before .before .before .before .before .args in emit-not (a .tokens .now) (a .text .now) (a .out) 4 _ _ _ (c .before .before .ready .ensures) (c .before .if1 .left) (c .stop .ensures)
 

@@ -9,51 +9,39 @@ use Rattle.room.proofs.place.stop.Reads as stop-reads
 use Rattle.room.proofs.place.token.Reads as token-reads
 use Rattle.text.proofs.names.name_text.Reads as name-text-reads
 
--- src/from_file.rt:36:8
 ready-requires : tie.Need-ready-requires
 ready-requires c κs = search needs
 
--- src/from_file.rt:38:31
 sub-name-text : tie.Need-sub-name-text
 sub-name-text c = let a = c .before .before .before .before .before .before .args in ready-rest (a .tokens .now) (a .text .now) (a .out) (a .kind) _ (c .before .ready .ensures) (c .if1 .taken)
 
--- src/from_file.rt:38:31
 part-name-text-start : tie.Need-part-name-text-start
 part-name-text-start c = let a = c .before .before .before .before .before .before .args in ready-rest (a .tokens .now) (a .text .now) (a .out) (a .kind) _ (c .before .ready .ensures) (c .if1 .taken)
 
--- src/from_file.rt:38:31
 part-name-text-end : tie.Need-part-name-text-end
 part-name-text-end c = search needs
 
--- src/from_file.rt:38:13
 name-text-requires : tie.Need-name-text-requires
 name-text-requires c κs = search needs
 
--- src/from_file.rt:39:9
 token-requires : tie.Need-token-requires
 token-requires c κs = let a = c .before .before .before .before .before .before .before .before .before .before .before .args in placeable (a .tokens .now) (a .text .now) (a .out) (a .kind) _ (c .before .before .before .before .before .before .ready .ensures) (c .before .before .before .before .before .if1 .taken) _ _ _ (c .before .before .before .name-text .ensures)
 
--- src/from_file.rt:39:9
 same-length : tie.Need-same-length
 same-length c = search needs
 
--- src/from_file.rt:39:9
 same-length-2 : tie.Need-same-length-2
 same-length-2 c = search needs
 
--- src/from_file.rt:39:9
 returns : tie.Need-returns
 returns c = let a = c .before .before .before .before .before .before .before .before .before .before .before .before .before .before .args in leaf-emit (a .tokens .now) (a .text .now) (a .out) (a .kind) _ (c .before .before .before .before .before .before .before .before .before .ready .ensures) (c .before .before .before .before .before .before .before .before .if1 .taken) _ _ _ (c .before .before .before .before .before .before .name-text .ensures) _ _ (c .before .before .token .ensures)
 
--- src/from_file.rt:41:5
 stop-requires : tie.Need-stop-requires
 stop-requires c κs = search needs
 
--- src/from_file.rt:32:1
 same-length-3 : tie.Need-same-length-3
 same-length-3 c = search needs
 
--- src/from_file.rt:32:1
 returns-2 : tie.Need-returns-2
 returns-2 c = let a = c .before .before .before .before .before .before .before .args in emit-not (a .tokens .now) (a .text .now) (a .out) (a .kind) _ _ _ (c .before .before .ready .ensures) (c .before .if1 .left) (c .stop .ensures)
 

@@ -9,51 +9,39 @@ use Rattle.room.proofs.place.stop.Reads as stop-reads
 use Rattle.room.proofs.place.token.Reads as token-reads
 use Rattle.text.proofs.leaf.copy_part.Reads as copy-part-reads
 
--- src/from_file.rt:23:8
 ready-requires : tie.Need-ready-requires
 ready-requires c κs = search needs
 
--- src/from_file.rt:25:31
 sub-copy-part : tie.Need-sub-copy-part
 sub-copy-part c = let a = c .before .before .before .before .before .before .args in ready-rest (a .tokens .now) (a .text .now) (a .out) (a .kind) _ (c .before .ready .ensures) (c .if1 .taken)
 
--- src/from_file.rt:25:31
 part-copy-part-start : tie.Need-part-copy-part-start
 part-copy-part-start c = let a = c .before .before .before .before .before .before .args in ready-rest (a .tokens .now) (a .text .now) (a .out) (a .kind) _ (c .before .ready .ensures) (c .if1 .taken)
 
--- src/from_file.rt:25:31
 part-copy-part-end : tie.Need-part-copy-part-end
 part-copy-part-end c = search needs
 
--- src/from_file.rt:25:13
 copy-part-requires : tie.Need-copy-part-requires
 copy-part-requires c κs = search needs
 
--- src/from_file.rt:26:9
 token-requires : tie.Need-token-requires
 token-requires c κs = let a = c .before .before .before .before .before .before .before .before .before .before .before .args in placeable (a .tokens .now) (a .text .now) (a .out) (a .kind) _ (c .before .before .before .before .before .before .ready .ensures) (c .before .before .before .before .before .if1 .taken) _ _ _ (c .before .before .before .copy-part .ensures)
 
--- src/from_file.rt:26:9
 same-length : tie.Need-same-length
 same-length c = search needs
 
--- src/from_file.rt:26:9
 same-length-2 : tie.Need-same-length-2
 same-length-2 c = search needs
 
--- src/from_file.rt:26:9
 returns : tie.Need-returns
 returns c = let a = c .before .before .before .before .before .before .before .before .before .before .before .before .before .before .args in leaf-emit (a .tokens .now) (a .text .now) (a .out) (a .kind) _ (c .before .before .before .before .before .before .before .before .before .ready .ensures) (c .before .before .before .before .before .before .before .before .if1 .taken) _ _ _ (c .before .before .before .before .before .before .copy-part .ensures) _ _ (c .before .before .token .ensures)
 
--- src/from_file.rt:28:5
 stop-requires : tie.Need-stop-requires
 stop-requires c κs = search needs
 
--- src/from_file.rt:19:1
 same-length-3 : tie.Need-same-length-3
 same-length-3 c = search needs
 
--- src/from_file.rt:19:1
 returns-2 : tie.Need-returns-2
 returns-2 c = let a = c .before .before .before .before .before .before .before .args in emit-not (a .tokens .now) (a .text .now) (a .out) (a .kind) _ _ _ (c .before .before .ready .ensures) (c .before .if1 .left) (c .stop .ensures)
 

@@ -12,58 +12,45 @@ use Rattle.room.proofs.fronted.part_behind.Lts as lts
 use Rattle.text.proofs.leaf.copy.Reads as copy-reads
 use Rattle.text.proofs.leaf.copy_part.Reads as copy-part-reads
 
--- src/fronted.rt:15:9
 returns : tie.Need-returns
 returns c = let a = c .before .before .before .before .args in no-front (a .front .now) (part (a .f .now) (a .at) (a .n)) _ _ refl (c .if1 .taken)
 
--- src/fronted.rt:17:37
 sub-copy-part : tie.Need-sub-copy-part
 sub-copy-part c = search needs
 
--- src/fronted.rt:17:37
 part-copy-part-start : tie.Need-part-copy-part-start
 part-copy-part-start c = search needs
 
--- src/fronted.rt:17:37
 part-copy-part-end : tie.Need-part-copy-part-end
 part-copy-part-end c = search needs
 
--- src/fronted.rt:17:27
 copy-part-requires : tie.Need-copy-part-requires
 copy-part-requires c κs = search needs
 
--- src/fronted.rt:17:22
 enum-known-m : tie.Need-enum-known-m
 enum-known-m c = search needs
 
--- src/fronted.rt:18:9
 enum-told : tie.Need-enum-told
 enum-told c = search needs
 
--- src/fronted.rt:18:9
 same-length : tie.Need-same-length
 same-length c = search needs
 
--- src/fronted.rt:18:9
 returns-2 : tie.Need-returns-2
 returns-2 c = let a = c .before .before .before .before .before .before .before .before .before .before .args in no-end (a .front .now) (part (a .f .now) (a .at) (a .n)) _ _ refl _ _ (c .before .before .before .before .before .before .if1 .left) (c .before .before .before .before .copy-part .ensures) (cc)
 
--- src/fronted.rt:20:5
 copy-requires : tie.Need-copy-requires
 copy-requires c κs = search needs
 
--- src/fronted.rt:21:18
 add-t8 : tie.Need-add-t8
 add-t8 c = let a = c .before .before .before .before .before .before .before .before .before .before .before .before .before .before .before .args in
     let k : length (a .front .now) + c .before .before .before .before .before .m .given .0 .0 ≤ length (a .dst .now) =
     end-count (a .front .now) (part (a .f .now) (a .at) (a .n)) (a .dst .now) _ refl _ _ _ (c .before .before .before .before .before .before .before .before .before .before .before .if1 .left) (c .before .before .before .before .before .before .before .before .before .copy-part .ensures) (cc) in
     omega arith
 
--- src/fronted.rt:10:1
 same-length-2 : tie.Need-same-length-2
 same-length-2 c = search needs
 
--- src/fronted.rt:10:1
 returns-3 : tie.Need-returns-3
 returns-3 c = let a = c .before .before .before .before .before .before .before .before .before .before .before .before .before .before .before .args in both-fit (a .front .now) (part (a .f .now) (a .at) (a .n)) _ _ refl _ _ _ _ _ (c .before .before .before .before .before .before .before .before .before .before .before .if1 .left) (c .before .before .before .before .before .before .before .before .before .copy-part .ensures) (cc) (c .before .before .copy .ensures)
 

@@ -6,20 +6,16 @@ use Rattle.room.proofs.line.address_of.Tie as tie
 use Rattle.room.proofs.line.address_of.Reads as reads
 use Rattle.room.proofs.line.address_of.Lts as lts
 
--- src/line.rt:28:24
 enum-told : tie.Need-enum-told
 enum-told c = search needs
 
--- src/line.rt:29:21
 enum-known-at : tie.Need-enum-known-at
 enum-known-at c = search needs
 
--- src/line.rt:24:1
 returns : tie.Need-returns
 unfolding hasAddress addressOf optionOf
 returns c = search needs
 
--- src/line.rt:24:1
 returns-2 : tie.Need-returns-2
 unfolding hasAddress addressOf optionOf
 returns-2 c = search needs

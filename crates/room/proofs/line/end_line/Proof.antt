@@ -10,43 +10,33 @@ use Rattle.room.proofs.line.has_address.Reads as has-address-reads
 use Rattle.room.proofs.line.write_row.Reads as write-row-reads
 use Rattle.room.proofs.place.stop.Reads as stop-reads
 
--- src/line.rt:51:9
 returns : tie.Need-returns
 returns c = end-full _ _ _ _ (c .if1 .taken)
 
--- src/line.rt:55:17
 mul-i : tie.Need-mul-i
 mul-i c = search needs
 
--- src/line.rt:56:29
 has-address-requires : tie.Need-has-address-requires
 has-address-requires c κs = search needs
 
--- src/line.rt:56:46
 address-of-requires : tie.Need-address-of-requires
 address-of-requires c κs = search needs
 
--- src/line.rt:56:9
 write-row-requires : tie.Need-write-row-requires
 write-row-requires c κs = search needs
 
--- src/line.rt:58:20
 add-t16 : tie.Need-add-t16
 add-t16 c = search needs
 
--- src/line.rt:57:9
 same-length : tie.Need-same-length
 same-length c = search needs
 
--- src/line.rt:57:9
 returns-2 : tie.Need-returns-2
 returns-2 c = end-fits _ _ _ _ _ _ _ (c .before .before .before .before .before .before .before .if1 .left) (omega arith) (c .before .before .before .before .has-address .ensures) (c .before .before .before .address-of .ensures) (c .before .before .write-row .ensures)
 
--- src/line.rt:65:5
 stop-requires : tie.Need-stop-requires
 stop-requires c κs = search needs
 
--- src/line.rt:47:1
 returns-3 : tie.Need-returns-3
 returns-3 c = end-stops _ _ _ _ _ (c .before .before .if1 .left) (omega arith) (c .stop .ensures)
 

@@ -6,20 +6,16 @@ use Rattle.room.proofs.line.has_address.Tie as tie
 use Rattle.room.proofs.line.has_address.Reads as reads
 use Rattle.room.proofs.line.has_address.Lts as lts
 
--- src/line.rt:19:24
 enum-told : tie.Need-enum-told
 enum-told c = search needs
 
--- src/line.rt:20:27
 enum-told-2 : tie.Need-enum-told-2
 enum-told-2 c = search needs
 
--- src/line.rt:15:1
 returns : tie.Need-returns
 unfolding hasAddress addressOf optionOf
 returns c = search needs
 
--- src/line.rt:15:1
 returns-2 : tie.Need-returns-2
 unfolding hasAddress addressOf optionOf
 returns-2 c = search needs

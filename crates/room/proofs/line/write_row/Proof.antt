@@ -7,67 +7,51 @@ use Rattle.room.proofs.line.write_row.Tie as tie
 use Rattle.room.proofs.line.write_row.Reads as reads
 use Rattle.room.proofs.line.write_row.Lts as lts
 
--- src/line.rt:38:5
 mul-lines : tie.Need-mul-lines
 mul-lines c = search needs
 
--- src/line.rt:38:5
 slice-write-lines : tie.Need-slice-write-lines
 slice-write-lines c = search needs
 
--- src/line.rt:39:11
 add-lines : tie.Need-add-lines
 add-lines c = search needs
 
--- src/line.rt:39:5
 mul-lines-2 : tie.Need-mul-lines-2
 mul-lines-2 c = search needs
 
--- src/line.rt:39:5
 slice-write-lines-2 : tie.Need-slice-write-lines-2
 slice-write-lines-2 c = simp length-set (omega arith)
 
--- src/line.rt:40:11
 add-lines-2 : tie.Need-add-lines-2
 add-lines-2 c = search needs
 
--- src/line.rt:40:5
 mul-lines-3 : tie.Need-mul-lines-3
 mul-lines-3 c = search needs
 
--- src/line.rt:40:5
 slice-write-lines-3 : tie.Need-slice-write-lines-3
 slice-write-lines-3 c = simp length-set (omega arith)
 
--- src/line.rt:41:11
 add-lines-3 : tie.Need-add-lines-3
 add-lines-3 c = search needs
 
--- src/line.rt:41:5
 mul-lines-4 : tie.Need-mul-lines-4
 mul-lines-4 c = search needs
 
--- src/line.rt:41:5
 slice-write-lines-4 : tie.Need-slice-write-lines-4
 slice-write-lines-4 c = simp length-set (omega arith)
 
--- src/line.rt:42:11
 add-lines-4 : tie.Need-add-lines-4
 add-lines-4 c = search needs
 
--- src/line.rt:42:5
 mul-lines-5 : tie.Need-mul-lines-5
 mul-lines-5 c = search needs
 
--- src/line.rt:42:5
 slice-write-lines-5 : tie.Need-slice-write-lines-5
 slice-write-lines-5 c = simp length-set (omega arith)
 
--- src/line.rt:34:1
 same-length : tie.Need-same-length
 same-length c = search needs
 
--- src/line.rt:34:1
 returns : tie.Need-returns
 returns c = row-is _ _ _ _ _ _ (c .pre)
 

@@ -6,31 +6,24 @@ use Rattle.room.proofs.place.goes_on.Reads as reads
 use Rattle.room.proofs.place.goes_on.Lts as lts
 use Rattle.room.proofs.place.joins.Reads as joins-reads
 
--- src/place.rt:32:9
 returns : tie.Need-returns
 returns c = goes-first _ _ _ (c .if1 .taken)
 
--- src/place.rt:34:8
 joins-requires : tie.Need-joins-requires
 joins-requires c κs = search needs
 
--- src/place.rt:35:23
 sub-result : tie.Need-sub-result
 sub-result c = search needs
 
--- src/place.rt:35:16
 mul-result : tie.Need-mul-result
 mul-result c = search needs
 
--- src/place.rt:35:16
 shared-slice-read-result : tie.Need-shared-slice-read-result
 shared-slice-read-result c = search needs
 
--- src/place.rt:35:9
 returns-2 : tie.Need-returns-2
 returns-2 c = goes-alike _ _ _ _ (c .before .before .before .if1 .left) (c .before .before .joins .ensures) (c .before .if2 .taken)
 
--- src/place.rt:26:1
 returns-3 : tie.Need-returns-3
 returns-3 c = goes-alone _ _ _ _ (c .before .before .if1 .left) (c .before .joins .ensures) (c .if2 .left)
 

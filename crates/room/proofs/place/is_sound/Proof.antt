@@ -5,23 +5,18 @@ use Rattle.room.proofs.place.is_sound.Tie as tie
 use Rattle.room.proofs.place.is_sound.Reads as reads
 use Rattle.room.proofs.place.is_sound.Lts as lts
 
--- src/place.rt:56:9
 returns : tie.Need-returns
 returns c = sound-full _ _ _ (c .if1 .taken)
 
--- src/place.rt:59:9
 returns-2 : tie.Need-returns-2
 returns-2 c = sound-not _ _ _ (λ s. omega (arith, s .most, c .if2 .taken))
 
--- src/place.rt:62:9
 returns-3 : tie.Need-returns-3
 returns-3 c = sound-not _ _ _ (λ s. omega (arith, s .bytes, c .if3 .taken))
 
--- src/place.rt:65:9
 returns-4 : tie.Need-returns-4
 returns-4 c = sound-not _ _ _ (λ s. omega (arith, s .start, c .if4 .taken))
 
--- src/place.rt:52:1
 returns-5 : tie.Need-returns-5
 returns-5 c = sound-last _ _ _ (c .before .before .before .before .before .before .if1 .left) (c .before .before .before .before .before .if2 .left) (c .before .before .before .if3 .left) (c .before .if4 .left)
 

@@ -4,11 +4,9 @@ use Rattle.room.proofs.place.joins.Tie as tie
 use Rattle.room.proofs.place.joins.Reads as reads
 use Rattle.room.proofs.place.joins.Lts as lts
 
--- src/place.rt:20:9
 returns : tie.Need-returns
 returns c = joins-punct _ (c .if1 .taken)
 
--- src/place.rt:16:1
 returns-2 : tie.Need-returns-2
 returns-2 c = joins-else _ (c .if1 .left)
 

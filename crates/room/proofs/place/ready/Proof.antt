@@ -8,23 +8,18 @@ use Rattle.room.proofs.place.ready.Lts as lts
 use Rattle.room.proofs.place.goes_on.Reads as goes-on-reads
 use Rattle.room.proofs.place.is_sound.Reads as is-sound-reads
 
--- src/place.rt:74:8
 is-sound-requires : tie.Need-is-sound-requires
 is-sound-requires c κs = search needs
 
--- src/place.rt:75:12
 goes-on-requires : tie.Need-goes-on-requires
 goes-on-requires c κs = sound-told _ _ _ (sym (c .before .is-sound .ensures) ∙ c .if1 .taken) .tokens
 
--- src/place.rt:76:13
 returns : tie.Need-returns
 returns c = ready-goes _ _ _ _ _ _ (c .before .before .before .is-sound .ensures) (c .before .before .if1 .taken) (c .before .goes-on .ensures) (c .if2 .taken)
 
--- src/place.rt:78:9
 returns-2 : tie.Need-returns-2
 returns-2 c = ready-new _ _ _ _ _ _ (c .before .before .before .before .is-sound .ensures) (c .before .before .before .if1 .taken) (c .before .before .goes-on .ensures) (c .before .if2 .left)
 
--- src/place.rt:71:1
 returns-3 : tie.Need-returns-3
 returns-3 c = ready-not _ _ _ _ _ (c .before .is-sound .ensures) (c .if1 .left)
 

@@ -8,19 +8,15 @@ use Rattle.room.proofs.place.slot_at.Reads as reads
 use Rattle.room.proofs.place.slot_at.Lts as lts
 use Rattle.room.proofs.place.goes_on.Reads as goes-on-reads
 
--- src/place.rt:45:8
 goes-on-requires : tie.Need-goes-on-requires
 goes-on-requires c κs = search needs
 
--- src/place.rt:46:16
 sub-result : tie.Need-sub-result
 sub-result c = omega (arith, goes-told _ _ _ (sym (c .before .before .goes-on .ensures) ∙ c .before .if1 .taken))
 
--- src/place.rt:46:9
 returns : tie.Need-returns
 returns c = slot-before _ _ _ _ (c .before .before .goes-on .ensures) (c .before .if1 .taken)
 
--- src/place.rt:41:1
 returns-2 : tie.Need-returns-2
 returns-2 c = slot-new _ _ _ _ (c .before .goes-on .ensures) (c .if1 .left)
 

@@ -5,7 +5,6 @@ use Rattle.room.proofs.place.stop.Tie as tie
 use Rattle.room.proofs.place.stop.Reads as reads
 use Rattle.room.proofs.place.stop.Lts as lts
 
--- src/place.rt:84:1
 returns : tie.Need-returns
 unfolding stopped
 returns c = refl

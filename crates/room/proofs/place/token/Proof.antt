@@ -8,55 +8,42 @@ use Rattle.room.proofs.place.token.Lts as lts
 use Rattle.room.proofs.place.slot_at.Reads as slot-at-reads
 use Rattle.room.proofs.place.stop.Reads as stop-reads
 
--- src/place.rt:101:22
 enum-known-wrote : tie.Need-enum-known-wrote
 enum-known-wrote c = search needs
 
--- src/place.rt:102:9
 enum-told : tie.Need-enum-told
 enum-told c = search needs
 
--- src/place.rt:102:9
 stop-requires : tie.Need-stop-requires
 stop-requires c κs = search needs
 
--- src/place.rt:102:9
 returns : tie.Need-returns
 returns c = token-none _ _ _ _ _ (c .stop .ensures) (cc)
 
--- src/place.rt:104:9
 slot-at-requires : tie.Need-slot-at-requires
 slot-at-requires c κs = search needs
 
--- src/place.rt:105:15
 add-end : tie.Need-add-end
 add-end c = let n = c .before .before .before .before .wrote .given .0 .0 in omega (arith, token-end _ _ _ _ n (c .before .before .before .before .before .before .before .pre) (cc))
 
--- src/place.rt:106:17
 mul-tokens : tie.Need-mul-tokens
 mul-tokens c = let n = c .before .before .before .before .wrote .given .0 .0 in omega (arith, token-end _ _ _ _ n (c .before .before .before .before .before .before .before .pre) (cc))
 
--- src/place.rt:106:17
 add-tokens : tie.Need-add-tokens
 add-tokens c = let n = c .before .before .before .before .wrote .given .0 .0 in omega (arith, token-end _ _ _ _ n (c .before .before .before .before .before .before .before .pre) (cc))
 
--- src/place.rt:106:5
 mul-tokens-2 : tie.Need-mul-tokens-2
 mul-tokens-2 c = search needs
 
--- src/place.rt:106:5
 slice-write-tokens : tie.Need-slice-write-tokens
 slice-write-tokens c = search needs
 
--- src/place.rt:109:17
 add-t14 : tie.Need-add-t14
 add-t14 c = search needs
 
--- src/place.rt:97:1
 same-length : tie.Need-same-length
 same-length c = search needs
 
--- src/place.rt:97:1
 returns-2 : tie.Need-returns-2
 returns-2 c = token-set _ _ _ _ _ _ (cc) (c .before .slot-at .ensures)
 

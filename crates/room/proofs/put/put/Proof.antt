@@ -9,51 +9,39 @@ use Rattle.room.proofs.place.stop.Reads as stop-reads
 use Rattle.room.proofs.place.token.Reads as token-reads
 use Rattle.text.proofs.leaf.copy.Reads as copy-reads
 
--- src/put.rt:28:8
 ready-requires : tie.Need-ready-requires
 ready-requires c κs = search needs
 
--- src/put.rt:30:26
 sub-copy : tie.Need-sub-copy
 sub-copy c = let a = c .before .before .before .before .before .before .args in ready-rest (a .tokens .now) (a .text .now) (a .out) (a .kind) _ (c .before .ready .ensures) (c .if1 .taken)
 
--- src/put.rt:30:26
 part-copy-start : tie.Need-part-copy-start
 part-copy-start c = let a = c .before .before .before .before .before .before .args in ready-rest (a .tokens .now) (a .text .now) (a .out) (a .kind) _ (c .before .ready .ensures) (c .if1 .taken)
 
--- src/put.rt:30:26
 part-copy-end : tie.Need-part-copy-end
 part-copy-end c = search needs
 
--- src/put.rt:30:13
 copy-requires : tie.Need-copy-requires
 copy-requires c κs = search needs
 
--- src/put.rt:31:9
 token-requires : tie.Need-token-requires
 token-requires c κs = let a = c .before .before .before .before .before .before .before .before .before .before .before .args in placeable (a .tokens .now) (a .text .now) (a .out) (a .kind) _ (c .before .before .before .before .before .before .ready .ensures) (c .before .before .before .before .before .if1 .taken) _ _ _ (c .before .before .before .copy .ensures)
 
--- src/put.rt:31:9
 same-length : tie.Need-same-length
 same-length c = search needs
 
--- src/put.rt:31:9
 same-length-2 : tie.Need-same-length-2
 same-length-2 c = search needs
 
--- src/put.rt:31:9
 returns : tie.Need-returns
 returns c = let a = c .before .before .before .before .before .before .before .before .before .before .before .before .before .before .args in leaf-emit (a .tokens .now) (a .text .now) (a .out) (a .kind) _ (c .before .before .before .before .before .before .before .before .before .ready .ensures) (c .before .before .before .before .before .before .before .before .if1 .taken) _ _ _ (c .before .before .before .before .before .before .copy .ensures) _ _ (c .before .before .token .ensures)
 
--- src/put.rt:33:5
 stop-requires : tie.Need-stop-requires
 stop-requires c κs = search needs
 
--- src/put.rt:24:1
 same-length-3 : tie.Need-same-length-3
 same-length-3 c = search needs
 
--- src/put.rt:24:1
 returns-2 : tie.Need-returns-2
 returns-2 c = let a = c .before .before .before .before .before .before .before .args in emit-not (a .tokens .now) (a .text .now) (a .out) (a .kind) _ _ _ (c .before .before .ready .ensures) (c .before .if1 .left) (c .stop .ensures)
 

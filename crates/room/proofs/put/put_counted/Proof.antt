@@ -11,51 +11,39 @@ use Rattle.room.proofs.place.stop.Reads as stop-reads
 use Rattle.room.proofs.place.token.Reads as token-reads
 use Rattle.text.proofs.numbers.behind.Reads as behind-reads
 
--- src/put.rt:119:8
 ready-requires : tie.Need-ready-requires
 ready-requires c κs = search needs
 
--- src/put.rt:121:28
 sub-behind : tie.Need-sub-behind
 sub-behind c = let a = c .before .before .before .before .before .before .args in ready-rest (a .tokens .now) (a .text .now) (a .out) 1 _ (c .before .ready .ensures) (c .if1 .taken)
 
--- src/put.rt:121:28
 part-behind-start : tie.Need-part-behind-start
 part-behind-start c = let a = c .before .before .before .before .before .before .args in ready-rest (a .tokens .now) (a .text .now) (a .out) 1 _ (c .before .ready .ensures) (c .if1 .taken)
 
--- src/put.rt:121:28
 part-behind-end : tie.Need-part-behind-end
 part-behind-end c = search needs
 
--- src/put.rt:121:13
 behind-requires : tie.Need-behind-requires
 behind-requires c κs = search needs
 
--- src/put.rt:122:9
 token-requires : tie.Need-token-requires
 token-requires c κs = let a = c .before .before .before .before .before .before .before .before .before .before .before .args in placeable (a .tokens .now) (a .text .now) (a .out) 1 _ (c .before .before .before .before .before .before .ready .ensures) (c .before .before .before .before .before .if1 .taken) _ _ _ (c .before .before .before .behind .ensures)
 
--- src/put.rt:122:9
 same-length : tie.Need-same-length
 same-length c = search needs
 
--- src/put.rt:122:9
 same-length-2 : tie.Need-same-length-2
 same-length-2 c = search needs
 
--- src/put.rt:122:9
 returns : tie.Need-returns
 returns c = let a = c .before .before .before .before .before .before .before .before .before .before .before .before .before .before .args in leaf-emit (a .tokens .now) (a .text .now) (a .out) 1 _ (c .before .before .before .before .before .before .before .before .before .ready .ensures) (c .before .before .before .before .before .before .before .before .if1 .taken) _ _ _ (leaf-as (c .before .before .before .before .before .before .behind .ensures) (counted-is (a .front .now) (a .k))) _ _ (c .before .before .token .ensures)
 
--- src/put.rt:124:5
 stop-requires : tie.Need-stop-requires
 stop-requires c κs = search needs
 
--- src/put.rt:115:1
 same-length-3 : tie.Need-same-length-3
 same-length-3 c = search needs
 
--- src/put.rt:115:1
 returns-2 : tie.Need-returns-2
 returns-2 c = let a = c .before .before .before .before .before .before .before .args in emit-not (a .tokens .now) (a .text .now) (a .out) 1 _ _ _ (c .before .before .ready .ensures) (c .before .if1 .left) (c .stop .ensures)
 

@@ -9,51 +9,39 @@ use Rattle.room.proofs.place.stop.Reads as stop-reads
 use Rattle.room.proofs.place.token.Reads as token-reads
 use Rattle.text.proofs.numbers.outward.Reads as outward-reads
 
--- src/put.rt:80:8
 ready-requires : tie.Need-ready-requires
 ready-requires c κs = search needs
 
--- src/put.rt:82:29
 sub-outward : tie.Need-sub-outward
 sub-outward c = let a = c .before .before .before .before .before .args in ready-rest (a .tokens .now) (a .text .now) (a .out) (a .kind) _ (c .before .ready .ensures) (c .if1 .taken)
 
--- src/put.rt:82:29
 part-outward-start : tie.Need-part-outward-start
 part-outward-start c = let a = c .before .before .before .before .before .args in ready-rest (a .tokens .now) (a .text .now) (a .out) (a .kind) _ (c .before .ready .ensures) (c .if1 .taken)
 
--- src/put.rt:82:29
 part-outward-end : tie.Need-part-outward-end
 part-outward-end c = search needs
 
--- src/put.rt:82:13
 outward-requires : tie.Need-outward-requires
 outward-requires c κs = search needs
 
--- src/put.rt:83:9
 token-requires : tie.Need-token-requires
 token-requires c κs = let a = c .before .before .before .before .before .before .before .before .before .before .args in placeable (a .tokens .now) (a .text .now) (a .out) (a .kind) _ (c .before .before .before .before .before .before .ready .ensures) (c .before .before .before .before .before .if1 .taken) _ _ _ (c .before .before .before .outward .ensures)
 
--- src/put.rt:83:9
 same-length : tie.Need-same-length
 same-length c = search needs
 
--- src/put.rt:83:9
 same-length-2 : tie.Need-same-length-2
 same-length-2 c = search needs
 
--- src/put.rt:83:9
 returns : tie.Need-returns
 returns c = let a = c .before .before .before .before .before .before .before .before .before .before .before .before .before .args in leaf-emit (a .tokens .now) (a .text .now) (a .out) (a .kind) _ (c .before .before .before .before .before .before .before .before .before .ready .ensures) (c .before .before .before .before .before .before .before .before .if1 .taken) _ _ _ (c .before .before .before .before .before .before .outward .ensures) _ _ (c .before .before .token .ensures)
 
--- src/put.rt:85:5
 stop-requires : tie.Need-stop-requires
 stop-requires c κs = search needs
 
--- src/put.rt:76:1
 same-length-3 : tie.Need-same-length-3
 same-length-3 c = search needs
 
--- src/put.rt:76:1
 returns-2 : tie.Need-returns-2
 returns-2 c = let a = c .before .before .before .before .before .before .args in emit-not (a .tokens .now) (a .text .now) (a .out) (a .kind) _ _ _ (c .before .before .ready .ensures) (c .before .if1 .left) (c .stop .ensures)
 

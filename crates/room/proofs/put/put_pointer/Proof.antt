@@ -10,52 +10,40 @@ use Rattle.room.proofs.place.stop.Reads as stop-reads
 use Rattle.room.proofs.place.token.Reads as token-reads
 use Rattle.text.proofs.numbers.pointer.Reads as pointer-reads
 
--- src/put.rt:93:8
 ready-requires : tie.Need-ready-requires
 ready-requires c κs = search needs
 
--- src/put.rt:95:29
 sub-pointer : tie.Need-sub-pointer
 sub-pointer c = let a = c .before .before .before .before .before .args in ready-rest (a .tokens .now) (a .text .now) (a .out) 3 _ (c .before .ready .ensures) (c .if1 .taken)
 
--- src/put.rt:95:29
 part-pointer-start : tie.Need-part-pointer-start
 part-pointer-start c = let a = c .before .before .before .before .before .args in ready-rest (a .tokens .now) (a .text .now) (a .out) 3 _ (c .before .ready .ensures) (c .if1 .taken)
 
--- src/put.rt:95:29
 part-pointer-end : tie.Need-part-pointer-end
 part-pointer-end c = search needs
 
--- src/put.rt:95:13
 pointer-requires : tie.Need-pointer-requires
 pointer-requires c κs = search needs
 
--- src/put.rt:96:9
 token-requires : tie.Need-token-requires
 token-requires c κs = let a = c .before .before .before .before .before .before .before .before .before .before .args in placeable (a .tokens .now) (a .text .now) (a .out) 3 _ (c .before .before .before .before .before .before .ready .ensures) (c .before .before .before .before .before .if1 .taken) _ _ _ (c .before .before .before .pointer .ensures)
 
--- src/put.rt:96:9
 same-length : tie.Need-same-length
 same-length c = search needs
 
--- src/put.rt:96:9
 same-length-2 : tie.Need-same-length-2
 same-length-2 c = search needs
 
--- src/put.rt:96:9
 returns : tie.Need-returns
 unfolding pointer
 returns c = let a = c .before .before .before .before .before .before .before .before .before .before .before .before .before .args in leaf-emit (a .tokens .now) (a .text .now) (a .out) 3 _ (c .before .before .before .before .before .before .before .before .before .ready .ensures) (c .before .before .before .before .before .before .before .before .if1 .taken) _ _ _ (c .before .before .before .before .before .before .pointer .ensures) _ _ (c .before .before .token .ensures)
 
--- src/put.rt:98:5
 stop-requires : tie.Need-stop-requires
 stop-requires c κs = search needs
 
--- src/put.rt:89:1
 same-length-3 : tie.Need-same-length-3
 same-length-3 c = search needs
 
--- src/put.rt:89:1
 returns-2 : tie.Need-returns-2
 unfolding pointer
 returns-2 c = let a = c .before .before .before .before .before .before .args in emit-not (a .tokens .now) (a .text .now) (a .out) 3 _ _ _ (c .before .before .ready .ensures) (c .before .if1 .left) (c .stop .ensures)

@@ -6,19 +6,15 @@ use Rattle.sheet.proofs.lines.first_of.Reads as reads
 use Rattle.sheet.proofs.lines.first_of.Lts as lts
 use Rattle.sheet.proofs.lines.last_of.Reads as last-of-reads
 
--- src/lines.rt:23:9
 returns : tie.Need-returns
 returns c = first-first _ _ (c .if1 .taken)
 
--- src/lines.rt:25:20
 sub-last-of : tie.Need-sub-last-of
 sub-last-of c = search needs
 
--- src/lines.rt:25:5
 last-of-requires : tie.Need-last-of-requires
 last-of-requires c κs = search needs
 
--- src/lines.rt:19:1
 returns-2 : tie.Need-returns-2
 returns-2 c = first-later _ _ _ (c .before .if1 .left) (c .last-of .ensures)
 

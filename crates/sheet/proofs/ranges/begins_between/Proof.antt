@@ -13,31 +13,24 @@ use Rattle.sheet.proofs.ranges.begins_between.Lts as lts
 use Rattle.sheet.proofs.ranges.least.Reads as least-reads
 use Rattle.words.proofs.begins_at.Reads as begins-at-reads
 
--- src/ranges.rt:30:9
 least-requires : tie.Need-least-requires
 least-requires c κs = search needs
 
--- src/ranges.rt:31:9
 least-requires-2 : tie.Need-least-requires-2
 least-requires-2 c κs = search needs
 
--- src/ranges.rt:32:18
 sub-begins-at : tie.Need-sub-begins-at
 sub-begins-at c = omega (arith, c .least2 .ensures, least-le (c .before .before .before .before .args .from) (c .before .least .result))
 
--- src/ranges.rt:32:18
 part-begins-at-start : tie.Need-part-begins-at-start
 part-begins-at-start c = omega (arith, c .least2 .ensures, least-le (c .before .before .before .before .args .from) (c .before .least .result))
 
--- src/ranges.rt:32:18
 part-begins-at-end : tie.Need-part-begins-at-end
 part-begins-at-end c = omega (arith, c .before .least .ensures, least-le (c .before .before .before .before .args .to) (length (c .before .before .before .before .args .text .now)))
 
--- src/ranges.rt:32:5
 begins-at-requires : tie.Need-begins-at-requires
 begins-at-requires c κs = search needs
 
--- src/ranges.rt:27:1
 returns : tie.Need-returns
 returns c = c .begins-at .ensures ∙ ap (λ (l : List ℕ). begins (c .before .before .before .before .before .before .args .w .now) l) (range-is (c .before .before .before .before .before .before .args .text .now) _ _ _ _ (c .before .before .before .least .ensures) (c .before .before .least2 .ensures))
 

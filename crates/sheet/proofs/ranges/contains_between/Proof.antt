@@ -13,31 +13,24 @@ use Rattle.sheet.proofs.ranges.contains_between.Lts as lts
 use Rattle.sheet.proofs.ranges.least.Reads as least-reads
 use Rattle.words.proofs.contains_text.Reads as contains-text-reads
 
--- src/ranges.rt:30:9
 least-requires : tie.Need-least-requires
 least-requires c κs = search needs
 
--- src/ranges.rt:31:9
 least-requires-2 : tie.Need-least-requires-2
 least-requires-2 c κs = search needs
 
--- src/ranges.rt:32:18
 sub-contains-text : tie.Need-sub-contains-text
 sub-contains-text c = omega (arith, c .least2 .ensures, least-le (c .before .before .before .before .args .from) (c .before .least .result))
 
--- src/ranges.rt:32:18
 part-contains-text-start : tie.Need-part-contains-text-start
 part-contains-text-start c = omega (arith, c .least2 .ensures, least-le (c .before .before .before .before .args .from) (c .before .least .result))
 
--- src/ranges.rt:32:18
 part-contains-text-end : tie.Need-part-contains-text-end
 part-contains-text-end c = omega (arith, c .before .least .ensures, least-le (c .before .before .before .before .args .to) (length (c .before .before .before .before .args .text .now)))
 
--- src/ranges.rt:32:5
 contains-text-requires : tie.Need-contains-text-requires
 contains-text-requires c κs = search needs
 
--- src/ranges.rt:27:1
 returns : tie.Need-returns
 returns c = c .contains-text .ensures ∙ ap (λ (l : List ℕ). contains (c .before .before .before .before .before .before .args .w .now) l) (range-is (c .before .before .before .before .before .before .args .text .now) _ _ _ _ (c .before .before .before .least .ensures) (c .before .before .least2 .ensures))
 

@@ -13,31 +13,24 @@ use Rattle.sheet.proofs.ranges.is_between.Lts as lts
 use Rattle.sheet.proofs.ranges.least.Reads as least-reads
 use Rattle.words.proofs.same_text.Reads as same-text-reads
 
--- src/ranges.rt:21:9
 least-requires : tie.Need-least-requires
 least-requires c κs = search needs
 
--- src/ranges.rt:22:9
 least-requires-2 : tie.Need-least-requires-2
 least-requires-2 c κs = search needs
 
--- src/ranges.rt:23:15
 sub-same-text : tie.Need-sub-same-text
 sub-same-text c = omega (arith, c .least2 .ensures, least-le (c .before .before .before .before .args .from) (c .before .least .result))
 
--- src/ranges.rt:23:15
 part-same-text-start : tie.Need-part-same-text-start
 part-same-text-start c = omega (arith, c .least2 .ensures, least-le (c .before .before .before .before .args .from) (c .before .least .result))
 
--- src/ranges.rt:23:15
 part-same-text-end : tie.Need-part-same-text-end
 part-same-text-end c = omega (arith, c .before .least .ensures, least-le (c .before .before .before .before .args .to) (length (c .before .before .before .before .args .text .now)))
 
--- src/ranges.rt:23:5
 same-text-requires : tie.Need-same-text-requires
 same-text-requires c κs = search needs
 
--- src/ranges.rt:18:1
 returns : tie.Need-returns
 returns c = c .same-text .ensures ∙ ap (λ (l : List ℕ). same l (c .before .before .before .before .before .before .args .w .now)) (range-is (c .before .before .before .before .before .before .args .text .now) _ _ _ _ (c .before .before .before .least .ensures) (c .before .before .least2 .ensures))
 

@@ -6,11 +6,9 @@ use Rattle.sheet.proofs.ranges.least.Tie as tie
 use Rattle.sheet.proofs.ranges.least.Reads as reads
 use Rattle.sheet.proofs.ranges.least.Lts as lts
 
--- src/ranges.rt:12:9
 returns : tie.Need-returns
 returns c = sym (least-left _ _ (c .if1 .taken))
 
--- src/ranges.rt:8:1
 returns-2 : tie.Need-returns-2
 returns-2 c = sym (least-right _ _ (omega arith))
 

@@ -6,11 +6,9 @@ use Rattle.sheet.proofs.ranges.none_between.Reads as reads
 use Rattle.sheet.proofs.ranges.none_between.Lts as lts
 use Rattle.sheet.proofs.ranges.least.Reads as least-reads
 
--- src/ranges.rt:39:5
 least-requires : tie.Need-least-requires
 least-requires c κs = search needs
 
--- src/ranges.rt:36:1
 returns : tie.Need-returns
 returns c = empty-is _ _ _ _ (c .least .ensures)
 

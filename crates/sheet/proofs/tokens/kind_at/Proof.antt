@@ -6,15 +6,12 @@ use Rattle.sheet.proofs.tokens.kind_at.Reads as reads
 use Rattle.sheet.proofs.tokens.kind_at.Lts as lts
 use Rattle.sheet.proofs.tokens.number_at.Reads as number-at-reads
 
--- src/tokens.rt:23:6
 number-at-requires : tie.Need-number-at-requires
 number-at-requires c κs = search needs
 
--- src/tokens.rt:23:5
 cast-result : tie.Need-cast-result
 cast-result c = search needs
 
--- src/tokens.rt:20:1
 returns : tie.Need-returns
 returns c = kind-is _ _ _ (c .number-at .ensures)
 

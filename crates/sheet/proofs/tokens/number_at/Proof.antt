@@ -6,19 +6,15 @@ use Rattle.sheet.proofs.tokens.number_at.Tie as tie
 use Rattle.sheet.proofs.tokens.number_at.Reads as reads
 use Rattle.sheet.proofs.tokens.number_at.Lts as lts
 
--- src/tokens.rt:15:16
 mul-result : tie.Need-mul-result
 mul-result c = search needs
 
--- src/tokens.rt:15:16
 shared-slice-read-result : tie.Need-shared-slice-read-result
 shared-slice-read-result c = search needs
 
--- src/tokens.rt:15:9
 returns : tie.Need-returns
 returns c = number-in (c .before .before .args .l .now) (c .before .before .args .i)
 
--- src/tokens.rt:11:1
 returns-2 : tie.Need-returns-2
 returns-2 c = number-out (c .before .args .l .now) (c .before .args .i) (omega arith)
 

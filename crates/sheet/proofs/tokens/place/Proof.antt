@@ -7,23 +7,18 @@ use Rattle.sheet.proofs.tokens.place.Tie as tie
 use Rattle.sheet.proofs.tokens.place.Reads as reads
 use Rattle.sheet.proofs.tokens.place.Lts as lts
 
--- src/tokens.rt:57:9
 returns : tie.Need-returns
 returns c = place-past _ _ _ (c .if1 .taken) (omega arith)
 
--- src/tokens.rt:60:16
 add-result : tie.Need-add-result
 add-result c = search needs
 
--- src/tokens.rt:60:9
 returns-2 : tie.Need-returns-2
 returns-2 c = place-past (c .before .before .args .tokens .now) _ _ (omega arith) (omega arith)
 
--- src/tokens.rt:62:5
 add-result-2 : tie.Need-add-result-2
 add-result-2 c = search needs
 
--- src/tokens.rt:52:1
 returns-3 : tie.Need-returns-3
 returns-3 c = place-is _ _ _ refl
 

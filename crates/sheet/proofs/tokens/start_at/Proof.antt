@@ -6,19 +6,15 @@ use Rattle.sheet.proofs.tokens.start_at.Reads as reads
 use Rattle.sheet.proofs.tokens.start_at.Lts as lts
 use Rattle.sheet.proofs.tokens.end_at.Reads as end-at-reads
 
--- src/tokens.rt:36:9
 returns : tie.Need-returns
 returns c = start-first _ _ (c .if1 .taken)
 
--- src/tokens.rt:38:20
 sub-end-at : tie.Need-sub-end-at
 sub-end-at c = search needs
 
--- src/tokens.rt:38:5
 end-at-requires : tie.Need-end-at-requires
 end-at-requires c κs = search needs
 
--- src/tokens.rt:32:1
 returns-2 : tie.Need-returns-2
 returns-2 c = start-later _ _ _ (c .before .if1 .left) (c .end-at .ensures)
 

@@ -9,27 +9,21 @@ use Rattle.sheet.proofs.tokens.end_at.Reads as end-at-reads
 use Rattle.sheet.proofs.tokens.kind_at.Reads as kind-at-reads
 use Rattle.sheet.proofs.tokens.start_at.Reads as start-at-reads
 
--- src/tokens.rt:45:8
 kind-at-requires : tie.Need-kind-at-requires
 kind-at-requires c κs = search needs
 
--- src/tokens.rt:46:9
 returns : tie.Need-returns
 returns c = token-other _ _ _ _ _ _ (c .before .kind-at .ensures) (c .if1 .taken)
 
--- src/tokens.rt:48:22
 start-at-requires : tie.Need-start-at-requires
 start-at-requires c κs = search needs
 
--- src/tokens.rt:48:43
 end-at-requires : tie.Need-end-at-requires
 end-at-requires c κs = search needs
 
--- src/tokens.rt:48:5
 is-between-requires : tie.Need-is-between-requires
 is-between-requires c κs = search needs
 
--- src/tokens.rt:42:1
 returns-2 : tie.Need-returns-2
 returns-2 c = token-same _ _ _ _ _ _ _ _ _ (c .before .before .before .before .kind-at .ensures) (c .before .before .before .if1 .left) (c .before .before .start-at .ensures) (c .before .end-at .ensures) (c .is-between .ensures)
 

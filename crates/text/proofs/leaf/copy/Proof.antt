@@ -16,41 +16,32 @@ Inv-loop dst₀ src i₀ dst i = (dst ≡ take i src ++ drop i dst₀) × (i ≤
 abbrev μ-loop : tie.MeasureT-loop
 μ-loop dst₀ src i₀ dst i = length src - i
 
--- src/leaf.rt:15:9
 returns : tie.Need-returns Inv-loop μ-loop
 returns c = leaf-short _ _ (c .if1 .taken)
 
--- src/leaf.rt:18:5
 loop-holds : tie.Need-loop-holds Inv-loop μ-loop
 loop-holds c = (refl, omega arith, refl)
 
--- src/leaf.rt:19:18
 shared-slice-read-dst : tie.Need-shared-slice-read-dst Inv-loop μ-loop
 shared-slice-read-dst c = omega arith
 
--- src/leaf.rt:19:9
 slice-write-dst : tie.Need-slice-write-dst Inv-loop μ-loop
 slice-write-dst c = omega arith
 
--- src/leaf.rt:20:9
 add-i : tie.Need-add-i Inv-loop μ-loop
 add-i c = omega arith
 
--- src/leaf.rt:18:5
 loop-less : tie.Need-loop-less Inv-loop μ-loop
 loop-less c = omega arith
 
--- src/leaf.rt:18:5
 loop-again : tie.Need-loop-again Inv-loop μ-loop
 loop-again c = let inv = c .before .before .loop .inv in
     let i = c .before .before .loop .i in
     (ap (λ l. set l i (getD (c .before .before .before .before .args .src .now) i 0)) (inv .0) ∙ copy-more _ _ _ (c .before .loop-test .taken) (omega arith), omega arith, simp length-set (inv .2))
 
--- src/leaf.rt:11:1
 same-length : tie.Need-same-length Inv-loop μ-loop
 same-length c = c .before .loop .inv .2
 
--- src/leaf.rt:11:1
 returns-2 : tie.Need-returns-2 Inv-loop μ-loop
 returns-2 c = copy-done (c .before .before .before .args .src .now) (c .before .before .before .args .dst .now) _ (c .before .loop .i) (c .before .loop .inv .0) (omega arith) (omega arith) (omega arith)
 

@@ -9,39 +9,30 @@ use Rattle.text.proofs.names.name_for.Reads as name-for-reads
 use Rattle.text.proofs.names.name_text.Reads as name-text-reads
 use Rattle.text.proofs.names.unnamed.Reads as unnamed-reads
 
--- src/names.rt:92:24
 name-for-requires : tie.Need-name-for-requires
 name-for-requires c κs = search needs
 
--- src/names.rt:92:19
 enum-known-i : tie.Need-enum-known-i
 enum-known-i c = search needs
 
--- src/names.rt:93:24
 enum-told : tie.Need-enum-told
 enum-told c = search needs
 
--- src/names.rt:93:9
 unnamed-requires : tie.Need-unnamed-requires
 unnamed-requires c κs = search needs
 
--- src/names.rt:93:9
 same-length : tie.Need-same-length
 same-length c = search needs
 
--- src/names.rt:93:9
 returns : tie.Need-returns
 returns c = leaf-as (c .before .before .unnamed .ensures) (global-unnamed _ _ _ _ _ (c .before .before .before .before .before .before .name-for .ensures) (cc))
 
--- src/names.rt:95:5
 name-text-requires : tie.Need-name-text-requires
 name-text-requires c κs = search needs
 
--- src/names.rt:89:1
 same-length-2 : tie.Need-same-length-2
 same-length-2 c = search needs
 
--- src/names.rt:89:1
 returns-2 : tie.Need-returns-2
 returns-2 c = leaf-as (c .before .before .name-text .ensures) (global-named _ _ _ _ _ (c .before .before .before .before .before .before .before .name-for .ensures) _ (cc))
 

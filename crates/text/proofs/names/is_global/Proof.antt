@@ -4,11 +4,9 @@ use Rattle.text.proofs.names.is_global.Tie as tie
 use Rattle.text.proofs.names.is_global.Reads as reads
 use Rattle.text.proofs.names.is_global.Lts as lts
 
--- src/names.rt:64:9
 returns : tie.Need-returns
 returns c = global-low _ (c .if1 .taken)
 
--- src/names.rt:60:1
 returns-2 : tie.Need-returns-2
 returns-2 c = global-high _ (c .if1 .left)
 

@@ -16,35 +16,27 @@ Inv-loop f a n i₀ i = nameIndex f a ≡ indexFrom f a i (n - i)
 abbrev μ-loop : tie.MeasureT-loop
 μ-loop f a n i₀ i = n - i
 
--- src/names.rt:31:9
 size-of-requires : tie.Need-size-of-requires Inv-loop μ-loop
 size-of-requires c κs = tt
 
--- src/names.rt:33:5
 loop-holds : tie.Need-loop-holds Inv-loop μ-loop
 loop-holds c = index-start _ _ _ (c .size-of .ensures)
 
--- src/names.rt:34:12
 name-long-requires : tie.Need-name-long-requires Inv-loop μ-loop
 name-long-requires c κs = tt
 
--- src/names.rt:35:13
 returns : tie.Need-returns Inv-loop μ-loop
 returns c = index-here _ _ _ _ (c .before .before .before .loop .inv) _ (c .before .before .loop-test .taken) (c .before .name-long .ensures) (c .if1 .taken)
 
--- src/names.rt:37:9
 add-i : tie.Need-add-i Inv-loop μ-loop
 add-i c = omega arith
 
--- src/names.rt:33:5
 loop-less : tie.Need-loop-less Inv-loop μ-loop
 loop-less c = omega arith
 
--- src/names.rt:33:5
 loop-again : tie.Need-loop-again Inv-loop μ-loop
 loop-again c = index-next _ _ _ _ (c .before .before .before .loop .inv) _ (c .before .before .loop-test .taken) (c .before .name-long .ensures) (c .if1 .left)
 
--- src/names.rt:28:1
 returns-2 : tie.Need-returns-2 Inv-loop μ-loop
 returns-2 c = index-none _ _ _ _ (c .before .loop .inv) (c .loop-test .left)
 

@@ -8,23 +8,18 @@ use Rattle.text.proofs.names.name_text.Lts as lts
 use Rattle.records.proofs.contents.name_word.Reads as name-word-reads
 use Rattle.text.proofs.names.text_part.Reads as text-part-reads
 
--- src/names.rt:54:9
 name-word-requires : tie.Need-name-word-requires
 name-word-requires c κs = search needs
 
--- src/names.rt:55:9
 name-word-requires-2 : tie.Need-name-word-requires-2
 name-word-requires-2 c κs = search needs
 
--- src/names.rt:56:5
 text-part-requires : tie.Need-text-part-requires
 text-part-requires c κs = search needs
 
--- src/names.rt:51:1
 same-length : tie.Need-same-length
 same-length c = search needs
 
--- src/names.rt:51:1
 returns : tie.Need-returns
 returns c = leaf-as (c .before .before .text-part .ensures) (name-part _ _ _ _ _ (c .before .before .before .before .before .name-word .ensures) (c .before .before .before .before .name-word2 .ensures))
 

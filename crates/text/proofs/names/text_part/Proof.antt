@@ -9,27 +9,21 @@ use Rattle.text.proofs.names.text_part.Lts as lts
 use Rattle.records.proofs.contents.offset_of.Reads as offset-of-reads
 use Rattle.text.proofs.leaf.copy_part.Reads as copy-part-reads
 
--- src/names.rt:46:14
 offset-of-requires : tie.Need-offset-of-requires
 offset-of-requires c κs = search needs
 
--- src/names.rt:46:14
 cast-at : tie.Need-cast-at
 cast-at c = search needs
 
--- src/names.rt:46:14
 add-at : tie.Need-add-at
 add-at c = search needs
 
--- src/names.rt:47:5
 copy-part-requires : tie.Need-copy-part-requires
 copy-part-requires c κs = search needs
 
--- src/names.rt:43:1
 same-length : tie.Need-same-length
 same-length c = search needs
 
--- src/names.rt:43:1
 returns : tie.Need-returns
 returns c = leaf-as (c .before .before .copy-part .ensures) (part-at _ _ _ _ (omega (arith, c .before .before .before .before .offset-of .ensures)))
 

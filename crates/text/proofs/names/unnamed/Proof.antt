@@ -7,83 +7,63 @@ use Rattle.text.proofs.names.unnamed.Reads as reads
 use Rattle.text.proofs.names.unnamed.Lts as lts
 use Rattle.text.proofs.numbers.behind.Reads as behind-reads
 
--- src/names.rt:74:28
 slice-aggregate-behind : tie.Need-slice-aggregate-behind
 slice-aggregate-behind c = search needs
 
--- src/names.rt:74:9
 behind-requires : tie.Need-behind-requires
 behind-requires c κs = search needs
 
--- src/names.rt:74:9
 same-length : tie.Need-same-length
 same-length c = search needs
 
--- src/names.rt:74:9
 returns : tie.Need-returns
 returns c = leaf-as (c .before .before .behind .ensures) (byte-is _ _ (c .before .before .before .before .before .if1 .taken))
 
--- src/names.rt:77:28
 slice-aggregate-behind-2 : tie.Need-slice-aggregate-behind-2
 slice-aggregate-behind-2 c = search needs
 
--- src/names.rt:77:9
 behind-requires-2 : tie.Need-behind-requires-2
 behind-requires-2 c κs = search needs
 
--- src/names.rt:77:9
 same-length-2 : tie.Need-same-length-2
 same-length-2 c = search needs
 
--- src/names.rt:77:9
 returns-2 : tie.Need-returns-2
 returns-2 c = leaf-as (c .before .before .behind2 .ensures) (word-is _ _ (c .before .before .before .before .before .if2 .taken))
 
--- src/names.rt:80:28
 slice-aggregate-behind-3 : tie.Need-slice-aggregate-behind-3
 slice-aggregate-behind-3 c = search needs
 
--- src/names.rt:80:9
 behind-requires-3 : tie.Need-behind-requires-3
 behind-requires-3 c κs = search needs
 
--- src/names.rt:80:9
 same-length-3 : tie.Need-same-length-3
 same-length-3 c = search needs
 
--- src/names.rt:80:9
 returns-3 : tie.Need-returns-3
 returns-3 c = leaf-as (c .before .before .behind3 .ensures) (dword-is _ _ (c .before .before .before .before .before .if3 .taken))
 
--- src/names.rt:83:28
 slice-aggregate-behind-4 : tie.Need-slice-aggregate-behind-4
 slice-aggregate-behind-4 c = search needs
 
--- src/names.rt:83:9
 behind-requires-4 : tie.Need-behind-requires-4
 behind-requires-4 c κs = search needs
 
--- src/names.rt:83:9
 same-length-4 : tie.Need-same-length-4
 same-length-4 c = search needs
 
--- src/names.rt:83:9
 returns-4 : tie.Need-returns-4
 returns-4 c = leaf-as (c .before .before .behind4 .ensures) (qword-is _ _ (c .before .before .before .before .before .if4 .taken))
 
--- src/names.rt:85:17
 slice-aggregate-behind-5 : tie.Need-slice-aggregate-behind-5
 slice-aggregate-behind-5 c = search needs
 
--- src/names.rt:85:5
 behind-requires-5 : tie.Need-behind-requires-5
 behind-requires-5 c κs = search needs
 
--- src/names.rt:70:1
 same-length-5 : tie.Need-same-length-5
 same-length-5 c = search needs
 
--- src/names.rt:70:1
 returns-5 : tie.Need-returns-5
 returns-5 c = leaf-as (c .before .before .behind5 .ensures) (unk-is _ _ (c .before .before .before .before .before .before .before .before .if1 .left) (c .before .before .before .before .before .before .before .if2 .left) (c .before .before .before .before .before .before .if3 .left) (c .before .before .before .before .before .if4 .left))
 

@@ -6,29 +6,23 @@ use Rattle.text.proofs.numbers.base.Tie as tie
 use Rattle.text.proofs.numbers.base.Reads as reads
 use Rattle.text.proofs.numbers.base.Lts as lts
 
--- src/numbers.rt:29:27
 enum-told : tie.Need-enum-told
 enum-told c = search needs
 
--- src/numbers.rt:30:25
 enum-told-2 : tie.Need-enum-told-2
 enum-told-2 c = search needs
 
--- src/numbers.rt:31:25
 enum-told-3 : tie.Need-enum-told-3
 enum-told-3 c = search needs
 
--- src/numbers.rt:25:1
 returns : tie.Need-returns
 unfolding baseOf
 returns c = (cc, omega arith, omega arith)
 
--- src/numbers.rt:25:1
 returns-2 : tie.Need-returns-2
 unfolding baseOf
 returns-2 c = (cc, omega arith, omega arith)
 
--- src/numbers.rt:25:1
 returns-3 : tie.Need-returns-3
 unfolding baseOf
 returns-3 c = (cc, omega arith, omega arith)

@@ -12,58 +12,45 @@ use Rattle.text.proofs.numbers.behind.Lts as lts
 use Rattle.text.proofs.leaf.copy.Reads as copy-reads
 use Rattle.text.proofs.numbers.digits.Reads as digits-reads
 
--- src/numbers.rt:103:9
 returns : tie.Need-returns
 returns c = let a = c .before .before .before .args in no-front (a .front .now) (numeral (a .x) (a .v)) _ _ refl (c .if1 .taken)
 
--- src/numbers.rt:105:34
 sub-digits : tie.Need-sub-digits
 sub-digits c = search needs
 
--- src/numbers.rt:105:34
 part-digits-start : tie.Need-part-digits-start
 part-digits-start c = search needs
 
--- src/numbers.rt:105:34
 part-digits-end : tie.Need-part-digits-end
 part-digits-end c = search needs
 
--- src/numbers.rt:105:27
 digits-requires : tie.Need-digits-requires
 digits-requires c κs = search needs
 
--- src/numbers.rt:105:22
 enum-known-m : tie.Need-enum-known-m
 enum-known-m c = search needs
 
--- src/numbers.rt:106:9
 enum-told : tie.Need-enum-told
 enum-told c = search needs
 
--- src/numbers.rt:106:9
 same-length : tie.Need-same-length
 same-length c = search needs
 
--- src/numbers.rt:106:9
 returns-2 : tie.Need-returns-2
 returns-2 c = let a = c .before .before .before .before .before .before .before .before .before .args in no-end (a .front .now) (numeral (a .x) (a .v)) _ _ refl _ _ (c .before .before .before .before .before .before .if1 .left) (c .before .before .before .before .digits .ensures) (cc)
 
--- src/numbers.rt:108:5
 copy-requires : tie.Need-copy-requires
 copy-requires c κs = search needs
 
--- src/numbers.rt:109:18
 add-t7 : tie.Need-add-t7
 add-t7 c = let a = c .before .before .before .before .before .before .before .before .before .before .before .before .before .before .args in
     let k : length (a .front .now) + c .before .before .before .before .before .m .given .0 .0 ≤ length (a .dst .now) =
     end-count (a .front .now) (numeral (a .x) (a .v)) (a .dst .now) _ refl _ _ _ (c .before .before .before .before .before .before .before .before .before .before .before .if1 .left) (c .before .before .before .before .before .before .before .before .before .digits .ensures) (cc) in
     omega arith
 
--- src/numbers.rt:98:1
 same-length-2 : tie.Need-same-length-2
 same-length-2 c = search needs
 
--- src/numbers.rt:98:1
 returns-3 : tie.Need-returns-3
 returns-3 c = let a = c .before .before .before .before .before .before .before .before .before .before .before .before .before .before .args in both-fit (a .front .now) (numeral (a .x) (a .v)) _ _ refl _ _ _ _ _ (c .before .before .before .before .before .before .before .before .before .before .before .if1 .left) (c .before .before .before .before .before .before .before .before .before .digits .ensures) (cc) (c .before .before .copy .ensures)
 

@@ -7,15 +7,12 @@ use Rattle.text.proofs.numbers.decimal.Reads as reads
 use Rattle.text.proofs.numbers.decimal.Lts as lts
 use Rattle.text.proofs.numbers.digits.Reads as digits-reads
 
--- src/numbers.rt:115:5
 digits-requires : tie.Need-digits-requires
 digits-requires c κs = search needs
 
--- src/numbers.rt:112:1
 same-length : tie.Need-same-length
 same-length c = search needs
 
--- src/numbers.rt:112:1
 returns : tie.Need-returns
 returns c = leaf-as (c .before .before .digits .ensures) (decimal-is _)
 

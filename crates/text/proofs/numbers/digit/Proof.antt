@@ -6,31 +6,24 @@ use Rattle.text.proofs.numbers.digit.Reads as reads
 use Rattle.text.proofs.numbers.digit.Lts as lts
 use Rattle.text.proofs.numbers.ten.Reads as ten-reads
 
--- src/numbers.rt:51:23
 cast-result : tie.Need-cast-result
 cast-result c = search needs
 
--- src/numbers.rt:51:16
 add-result : tie.Need-add-result
 add-result c = search needs
 
--- src/numbers.rt:51:9
 returns : tie.Need-returns
 returns c = digit-low _ _ (c .if1 .taken)
 
--- src/numbers.rt:53:5
 ten-requires : tie.Need-ten-requires
 ten-requires c κs = search needs
 
--- src/numbers.rt:53:14
 cast-result-2 : tie.Need-cast-result-2
 cast-result-2 c = search needs
 
--- src/numbers.rt:53:5
 add-result-2 : tie.Need-add-result-2
 add-result-2 c = search needs
 
--- src/numbers.rt:46:1
 returns-2 : tie.Need-returns-2
 returns-2 c = digit-high _ _ _ (c .before .if1 .left) (c .ten .ensures .0)
 

@@ -17,48 +17,37 @@ Inv-loop dst₀ x n v b i₀ r₀ dst i r = (filled b (tenOf x) n v dst₀ ≡ f
 abbrev μ-loop : tie.MeasureT-loop
 μ-loop dst₀ x n v b i₀ r₀ dst i r = i
 
--- src/numbers.rt:75:9
 base-requires : tie.Need-base-requires Inv-loop μ-loop
 base-requires c κs = tt
 
--- src/numbers.rt:78:5
 loop-holds : tie.Need-loop-holds Inv-loop μ-loop
 loop-holds c = (refl, omega arith, refl)
 
--- src/numbers.rt:79:9
 sub-i : tie.Need-sub-i Inv-loop μ-loop
 sub-i c = omega arith
 
--- src/numbers.rt:80:27
 rem-digit : tie.Need-rem-digit Inv-loop μ-loop
 rem-digit c = omega arith
 
--- src/numbers.rt:80:18
 digit-requires : tie.Need-digit-requires Inv-loop μ-loop
 digit-requires c κs = remainder-less _ _ (c .before .before .base .ensures .1) (c .before .before .base .ensures .2)
 
--- src/numbers.rt:80:9
 slice-write-dst : tie.Need-slice-write-dst Inv-loop μ-loop
 slice-write-dst c = omega arith
 
--- src/numbers.rt:81:13
 div-r : tie.Need-div-r Inv-loop μ-loop
 div-r c = omega arith
 
--- src/numbers.rt:78:5
 loop-less : tie.Need-loop-less Inv-loop μ-loop
 loop-less c = omega arith
 
--- src/numbers.rt:78:5
 loop-again : tie.Need-loop-again Inv-loop μ-loop
 loop-again c = let inv = c .before .before .loop .inv in
     (inv .0 ∙ fill-turn _ _ _ _ _ _ (c .before .loop-test .taken) (c .digit .ensures), omega arith, simp length-set (inv .2))
 
--- src/numbers.rt:71:1
 same-length : tie.Need-same-length Inv-loop μ-loop
 same-length c = c .before .loop .inv .2
 
--- src/numbers.rt:71:1
 returns : tie.Need-returns Inv-loop μ-loop
 returns c = let inv = c .before .loop .inv in
     sym (inv .0 ∙ fill-end _ _ _ _ _ (omega arith)) ∙ rw (c .before .before .base .ensures .0)

@@ -7,15 +7,12 @@ use Rattle.text.proofs.numbers.hex.Reads as reads
 use Rattle.text.proofs.numbers.hex.Lts as lts
 use Rattle.text.proofs.numbers.digits.Reads as digits-reads
 
--- src/numbers.rt:121:5
 digits-requires : tie.Need-digits-requires
 digits-requires c κs = search needs
 
--- src/numbers.rt:118:1
 same-length : tie.Need-same-length
 same-length c = search needs
 
--- src/numbers.rt:118:1
 returns : tie.Need-returns
 returns c = leaf-as (c .before .before .digits .ensures) (hex-is _)
 

@@ -8,75 +8,57 @@ use Rattle.text.proofs.numbers.num.Reads as reads
 use Rattle.text.proofs.numbers.num.Lts as lts
 use Rattle.text.proofs.numbers.behind.Reads as behind-reads
 
--- src/numbers.rt:136:32
 slice-aggregate-behind : tie.Need-slice-aggregate-behind
 slice-aggregate-behind c = search needs
 
--- src/numbers.rt:136:13
 behind-requires : tie.Need-behind-requires
 behind-requires c κs = search needs
 
--- src/numbers.rt:136:13
 same-length : tie.Need-same-length
 same-length c = search needs
 
--- src/numbers.rt:136:13
 returns : tie.Need-returns
 returns c = leaf-as (c .before .before .behind .ensures) (num-digit _ (c .before .before .before .before .before .before .if1 .taken) (c .before .before .before .before .before .if2 .taken))
 
--- src/numbers.rt:138:28
 slice-aggregate-behind-2 : tie.Need-slice-aggregate-behind-2
 slice-aggregate-behind-2 c = search needs
 
--- src/numbers.rt:138:9
 behind-requires-2 : tie.Need-behind-requires-2
 behind-requires-2 c κs = search needs
 
--- src/numbers.rt:138:9
 same-length-2 : tie.Need-same-length-2
 same-length-2 c = search needs
 
--- src/numbers.rt:138:9
 returns-2 : tie.Need-returns-2
 returns-2 c = leaf-as (c .before .before .behind2 .ensures) (num-hex _ (c .before .before .before .before .before .before .if1 .taken) (c .before .before .before .before .before .if2 .left))
 
--- src/numbers.rt:140:13
 sub-m : tie.Need-sub-m
 sub-m c = search needs
 
--- src/numbers.rt:140:13
 add-m : tie.Need-add-m
 add-m c = search needs
 
--- src/numbers.rt:142:28
 slice-aggregate-behind-3 : tie.Need-slice-aggregate-behind-3
 slice-aggregate-behind-3 c = search needs
 
--- src/numbers.rt:142:9
 behind-requires-3 : tie.Need-behind-requires-3
 behind-requires-3 c κs = search needs
 
--- src/numbers.rt:142:9
 same-length-3 : tie.Need-same-length-3
 same-length-3 c = search needs
 
--- src/numbers.rt:142:9
 returns-3 : tie.Need-returns-3
 returns-3 c = leaf-as (c .before .before .behind3 .ensures) (num-minus-digit _ _ (c .before .before .before .before .before .before .if1 .left) (omega arith) (c .before .before .before .before .before .if3 .taken))
 
--- src/numbers.rt:144:17
 slice-aggregate-behind-4 : tie.Need-slice-aggregate-behind-4
 slice-aggregate-behind-4 c = search needs
 
--- src/numbers.rt:144:5
 behind-requires-4 : tie.Need-behind-requires-4
 behind-requires-4 c κs = search needs
 
--- src/numbers.rt:131:1
 same-length-4 : tie.Need-same-length-4
 same-length-4 c = search needs
 
--- src/numbers.rt:131:1
 returns-4 : tie.Need-returns-4
 returns-4 c = leaf-as (c .before .before .behind4 .ensures) (num-minus-hex _ _ (c .before .before .before .before .before .before .if1 .left) (omega arith) (c .before .before .before .before .before .if3 .left))
 

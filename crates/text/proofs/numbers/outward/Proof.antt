@@ -7,19 +7,15 @@ use Rattle.text.proofs.numbers.outward.Reads as reads
 use Rattle.text.proofs.numbers.outward.Lts as lts
 use Rattle.text.proofs.numbers.behind.Reads as behind-reads
 
--- src/numbers.rt:168:17
 slice-aggregate-behind : tie.Need-slice-aggregate-behind
 slice-aggregate-behind c = search needs
 
--- src/numbers.rt:168:5
 behind-requires : tie.Need-behind-requires
 behind-requires c κs = search needs
 
--- src/numbers.rt:165:1
 same-length : tie.Need-same-length
 same-length c = search needs
 
--- src/numbers.rt:165:1
 returns : tie.Need-returns
 returns c = leaf-as (c .before .before .behind .ensures) (outward-is _)
 

@@ -16,80 +16,62 @@ use Rattle.text.proofs.leaf.copy.Reads as copy-reads
 use Rattle.text.proofs.numbers.behind.Reads as behind-reads
 use Rattle.text.proofs.numbers.width.Reads as width-reads
 
--- src/numbers.rt:175:13
 mul-v : tie.Need-mul-v
 mul-v c = search needs
 
--- src/numbers.rt:176:17
 width-requires : tie.Need-width-requires
 width-requires c κs = search needs
 
--- src/numbers.rt:176:13
 add-n : tie.Need-add-n
 add-n c = search needs
 
--- src/numbers.rt:178:9
 returns : tie.Need-returns
 returns c = let n = c .before .before .before .args .size in
     leaf-as (no-front (txt "*(uint" ++ numeral Decimal (8 * n)) (txt "_t *)") _ _ (pointer-size _ _ (c .before .width .ensures .0)) (c .if1 .taken)) (pointer-is n)
 
--- src/numbers.rt:180:32
 sub-copy : tie.Need-sub-copy
 sub-copy c = search needs
 
--- src/numbers.rt:180:32
 part-copy-start : tie.Need-part-copy-start
 part-copy-start c = search needs
 
--- src/numbers.rt:180:32
 part-copy-end : tie.Need-part-copy-end
 part-copy-end c = search needs
 
--- src/numbers.rt:180:47
 slice-aggregate-copy : tie.Need-slice-aggregate-copy
 slice-aggregate-copy c = search needs
 
--- src/numbers.rt:180:27
 copy-requires : tie.Need-copy-requires
 copy-requires c κs = search needs
 
--- src/numbers.rt:180:22
 enum-known-m : tie.Need-enum-known-m
 enum-known-m c = search needs
 
--- src/numbers.rt:181:9
 enum-told : tie.Need-enum-told
 enum-told c = search needs
 
--- src/numbers.rt:181:9
 same-length : tie.Need-same-length
 same-length c = search needs
 
--- src/numbers.rt:181:9
 returns-2 : tie.Need-returns-2
 returns-2 c = let n = c .before .before .before .before .before .before .before .before .before .before .args .size in
     leaf-as (no-end (txt "*(uint" ++ numeral Decimal (8 * n)) (txt "_t *)") _ _ (pointer-size _ _ (c .before .before .before .before .before .before .before .before .width .ensures .0)) _ _ (c .before .before .before .before .before .before .before .if1 .left) (c .before .before .before .before .copy .ensures) (cc)) (pointer-is n)
 
--- src/numbers.rt:183:17
 slice-aggregate-behind : tie.Need-slice-aggregate-behind
 slice-aggregate-behind c = search needs
 
--- src/numbers.rt:183:5
 behind-requires : tie.Need-behind-requires
 behind-requires c κs = search needs
 
--- src/numbers.rt:184:18
 add-t9 : tie.Need-add-t9
 add-t9 c = let a = c .before .before .before .before .before .before .before .before .before .before .before .before .before .before .before .before .args in
     let k : 6 + c .before .before .before .before .before .before .before .before .before .before .before .before .before .before .width .result + c .before .before .before .before .before .before .m .given .0 .0 ≤ length (a .dst .now) =
     end-count (txt "*(uint" ++ numeral Decimal (8 * a .size)) (txt "_t *)") (a .dst .now) _ (pointer-size _ _ (c .before .before .before .before .before .before .before .before .before .before .before .before .before .before .width .ensures .0)) _ _ _ (c .before .before .before .before .before .before .before .before .before .before .before .before .before .if1 .left) (c .before .before .before .before .before .before .before .before .before .before .copy .ensures) (cc) in
     omega arith
 
--- src/numbers.rt:172:1
 same-length-2 : tie.Need-same-length-2
 same-length-2 c = search needs
 
--- src/numbers.rt:172:1
 returns-3 : tie.Need-returns-3
 returns-3 c = let n = c .before .before .before .before .before .before .before .before .before .before .before .before .before .before .before .before .args .size in
     leaf-as (both-fit (txt "*(uint" ++ numeral Decimal (8 * n)) (txt "_t *)") _ _ (pointer-size _ _ (c .before .before .before .before .before .before .before .before .before .before .before .before .before .before .width .ensures .0)) _ _ _ _ _ (c .before .before .before .before .before .before .before .before .before .before .before .before .before .if1 .left) (c .before .before .before .before .before .before .before .before .before .before .copy .ensures) (cc) (c .before .before .behind .ensures)) (pointer-is n)

@@ -7,39 +7,30 @@ use Rattle.text.proofs.numbers.slot.Reads as reads
 use Rattle.text.proofs.numbers.slot.Lts as lts
 use Rattle.text.proofs.numbers.behind.Reads as behind-reads
 
--- src/numbers.rt:152:28
 slice-aggregate-behind : tie.Need-slice-aggregate-behind
 slice-aggregate-behind c = search needs
 
--- src/numbers.rt:152:51
 sub-behind : tie.Need-sub-behind
 sub-behind c = search needs
 
--- src/numbers.rt:152:9
 behind-requires : tie.Need-behind-requires
 behind-requires c κs = search needs
 
--- src/numbers.rt:152:9
 same-length : tie.Need-same-length
 same-length c = search needs
 
--- src/numbers.rt:152:9
 returns : tie.Need-returns
 returns c = leaf-as (c .before .before .behind .ensures) (slot-below _ (c .before .before .before .before .before .if1 .taken))
 
--- src/numbers.rt:154:17
 slice-aggregate-behind-2 : tie.Need-slice-aggregate-behind-2
 slice-aggregate-behind-2 c = search needs
 
--- src/numbers.rt:154:5
 behind-requires-2 : tie.Need-behind-requires-2
 behind-requires-2 c κs = search needs
 
--- src/numbers.rt:148:1
 same-length-2 : tie.Need-same-length-2
 same-length-2 c = search needs
 
--- src/numbers.rt:148:1
 returns-2 : tie.Need-returns-2
 returns-2 c = leaf-as (c .before .before .behind2 .ensures) (slot-above _ (c .before .before .before .before .before .if1 .left))
 

@@ -6,29 +6,23 @@ use Rattle.text.proofs.numbers.ten.Tie as tie
 use Rattle.text.proofs.numbers.ten.Reads as reads
 use Rattle.text.proofs.numbers.ten.Lts as lts
 
--- src/numbers.rt:40:27
 enum-told : tie.Need-enum-told
 enum-told c = search needs
 
--- src/numbers.rt:41:25
 enum-told-2 : tie.Need-enum-told-2
 enum-told-2 c = search needs
 
--- src/numbers.rt:42:25
 enum-told-3 : tie.Need-enum-told-3
 enum-told-3 c = search needs
 
--- src/numbers.rt:36:1
 returns : tie.Need-returns
 unfolding tenOf
 returns c = (cc, omega arith)
 
--- src/numbers.rt:36:1
 returns-2 : tie.Need-returns-2
 unfolding tenOf
 returns-2 c = (cc, omega arith)
 
--- src/numbers.rt:36:1
 returns-3 : tie.Need-returns-3
 unfolding tenOf
 returns-3 c = (cc, omega arith)

@@ -12,31 +12,24 @@ Inv-loop v b n₀ r₀ n r = Turned b v n r
 abbrev μ-loop : tie.MeasureT-loop
 μ-loop v b n₀ r₀ n r = r
 
--- src/numbers.rt:60:9
 base-requires : tie.Need-base-requires Inv-loop μ-loop
 base-requires c κs = tt
 
--- src/numbers.rt:63:5
 loop-holds : tie.Need-loop-holds Inv-loop μ-loop
 loop-holds c = turned-none _ _
 
--- src/numbers.rt:64:13
 div-r : tie.Need-div-r Inv-loop μ-loop
 div-r c = omega arith
 
--- src/numbers.rt:65:9
 add-n : tie.Need-add-n Inv-loop μ-loop
 add-n c = let k = turned-fewer _ _ _ _ _ (c .before .before .base .ensures .0) (c .before .before .before .fits .v .fits) (c .before .loop .inv) (c .before .before .base .ensures .1) (c .loop-test .taken) in omega arith
 
--- src/numbers.rt:63:5
 loop-less : tie.Need-loop-less Inv-loop μ-loop
 loop-less c = quotient-less _ _ (c .before .before .base .ensures .1) (c .loop-test .taken)
 
--- src/numbers.rt:63:5
 loop-again : tie.Need-loop-again Inv-loop μ-loop
 loop-again c = turned-more _ _ _ _ (c .before .before .base .ensures .1) (c .before .loop .inv) (c .loop-test .taken)
 
--- src/numbers.rt:57:1
 returns : tie.Need-returns Inv-loop μ-loop
 returns c = let e = c .before .before .base .ensures .0 in
     let v = c .before .before .before .fits .v .fits in

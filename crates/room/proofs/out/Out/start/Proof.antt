@@ -5,7 +5,6 @@ use Rattle.room.proofs.out.Out.start.Tie as tie
 use Rattle.room.proofs.out.Out.start.Reads as reads
 use Rattle.room.proofs.out.Out.start.Lts as lts
 
--- src/out.rt:17:5
 returns : tie.Need-returns
 unfolding fresh
 returns c = refl

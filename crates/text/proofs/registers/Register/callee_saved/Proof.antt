@@ -6,15 +6,12 @@ use Rattle.text.proofs.registers.Register.callee_saved.Reads as reads
 use Rattle.text.proofs.registers.Register.callee_saved.Lts as lts
 use Rattle.text.proofs.registers.is_among.Reads as is-among-reads
 
--- src/registers.rt:59:21
 slice-aggregate-is-among : tie.Need-slice-aggregate-is-among
 slice-aggregate-is-among c = search needs
 
--- src/registers.rt:59:9
 is-among-requires : tie.Need-is-among-requires
 is-among-requires c κs = search needs
 
--- src/registers.rt:55:5
 returns : tie.Need-returns
 unfolding calleeSaved
 returns c = c .is-among .ensures

@@ -9,75 +9,57 @@ use Rattle.text.proofs.registers.Register.name.Reads as reads
 use Rattle.text.proofs.registers.Register.name.Lts as lts
 use Rattle.text.proofs.leaf.copy_part.Reads as copy-part-reads
 
--- src/registers.rt:40:23
 cast-at : tie.Need-cast-at
 cast-at c = search needs
 
--- src/registers.rt:40:18
 mul-at : tie.Need-mul-at
 mul-at c = search needs
 
--- src/registers.rt:43:39
 slice-aggregate-copy-part : tie.Need-slice-aggregate-copy-part
 slice-aggregate-copy-part c = search needs
 
--- src/registers.rt:43:17
 copy-part-requires : tie.Need-copy-part-requires
 copy-part-requires c κs = search needs
 
--- src/registers.rt:43:17
 same-length : tie.Need-same-length
 same-length c = search needs
 
--- src/registers.rt:43:17
 returns : tie.Need-returns
 returns c = leaf-as (c .before .before .copy-part .ensures) (name-32 _ _ (c .before .before .before .before .before .before .if1 .taken) (c .before .before .before .before .before .if2 .taken))
 
--- src/registers.rt:47:35
 slice-aggregate-copy-part-2 : tie.Need-slice-aggregate-copy-part-2
 slice-aggregate-copy-part-2 c = search needs
 
--- src/registers.rt:47:13
 copy-part-requires-2 : tie.Need-copy-part-requires-2
 copy-part-requires-2 c κs = search needs
 
--- src/registers.rt:47:13
 same-length-2 : tie.Need-same-length-2
 same-length-2 c = search needs
 
--- src/registers.rt:47:13
 returns-2 : tie.Need-returns-2
 returns-2 c = leaf-as (c .before .before .copy-part2 .ensures) (name-8 _ _ (c .before .before .before .before .before .if3 .taken))
 
--- src/registers.rt:50:35
 slice-aggregate-copy-part-3 : tie.Need-slice-aggregate-copy-part-3
 slice-aggregate-copy-part-3 c = search needs
 
--- src/registers.rt:50:13
 copy-part-requires-3 : tie.Need-copy-part-requires-3
 copy-part-requires-3 c κs = search needs
 
--- src/registers.rt:50:13
 same-length-3 : tie.Need-same-length-3
 same-length-3 c = search needs
 
--- src/registers.rt:50:13
 returns-3 : tie.Need-returns-3
 returns-3 c = leaf-as (c .before .before .copy-part3 .ensures) (name-9 _ _ (c .before .before .before .before .before .if4 .taken))
 
--- src/registers.rt:52:24
 slice-aggregate-copy-part-4 : tie.Need-slice-aggregate-copy-part-4
 slice-aggregate-copy-part-4 c = search needs
 
--- src/registers.rt:52:9
 copy-part-requires-4 : tie.Need-copy-part-requires-4
 copy-part-requires-4 c κs = search needs
 
--- src/registers.rt:36:5
 same-length-4 : tie.Need-same-length-4
 same-length-4 c = search needs
 
--- src/registers.rt:36:5
 returns-4 : tie.Need-returns-4
 returns-4 c = leaf-as (c .before .before .copy-part4 .ensures) (name-other _ _ (λ q. ⊎-elim (λ w. omega arith) (λ w. omega arith) (c .before .before .before .before .before .before .before .if1 .came)) (c .before .before .before .before .before .before .if3 .left) (c .before .before .before .before .before .if4 .left))
 

@@ -1,0 +1,16 @@
+use Rattle.shape.proofs.Shapes.{flags-is}
+use borrow.Author.Needs.{needs}
+use Rattle.shape.proofs.fields.flags_shaped.Statement.{statement}
+use Rattle.shape.proofs.fields.flags_shaped.Tie as tie
+
+stmt-field-requires : tie.Need-stmt-field-requires
+stmt-field-requires c κs = search needs
+
+blank-tail-requires : tie.Need-blank-tail-requires
+blank-tail-requires c κs = search needs
+
+returns : tie.Need-returns
+returns c = flags-is _ _ _ (c .before .stmt-field .ensures) (c .blank-tail .ensures)
+
+pub flags-shaped-spec : {M : Type 1} → statement M
+flags-shaped-spec = tie.close (tie.spec stmt-field-requires blank-tail-requires returns)

@@ -1,0 +1,13 @@
+use Rattle.shape.proofs.Shapes.{phi-is}
+use borrow.Author.Needs.{needs}
+use Rattle.shape.proofs.fields.phi_shaped.Statement.{statement}
+use Rattle.shape.proofs.fields.phi_shaped.Tie as tie
+
+phi-word-requires : tie.Need-phi-word-requires
+phi-word-requires c κs = search needs
+
+returns : tie.Need-returns
+returns c = phi-is _ _ _ (c .phi-word .ensures)
+
+pub phi-shaped-spec : {M : Type 1} → statement M
+phi-shaped-spec = tie.close (tie.spec phi-word-requires returns)

@@ -1,0 +1,16 @@
+use Rattle.shape.proofs.Shapes.{store-is}
+use borrow.Author.Needs.{needs}
+use Rattle.shape.proofs.fields.store_shaped.Statement.{statement}
+use Rattle.shape.proofs.fields.store_shaped.Tie as tie
+
+stmt-field-requires : tie.Need-stmt-field-requires
+stmt-field-requires c κs = search needs
+
+blank-tail-requires : tie.Need-blank-tail-requires
+blank-tail-requires c κs = search needs
+
+returns : tie.Need-returns
+returns c = store-is _ _ _ (c .before .stmt-field .ensures) (c .blank-tail .ensures)
+
+pub store-shaped-spec : {M : Type 1} → statement M
+store-shaped-spec = tie.close (tie.spec stmt-field-requires blank-tail-requires returns)
