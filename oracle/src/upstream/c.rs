@@ -388,11 +388,7 @@ fn negate(c: &[Token]) -> Vec<Token> {
 impl SsaFunction {
     /// The function as C-like lines generated from this SSA form.
     pub fn to_c(&self, o: &COptions) -> Result<(Vec<PseudoLine>, usize, usize), Refusal> {
-        let mut out = self.lower(o, &mut |_, _| {})?;
-        let ifs = structure_ifs(&mut out)?;
-        let loops = structure_do_while(&mut out)?;
-        drop_unused_labels(&mut out);
-        Ok((out, ifs, loops))
+        structure(self.lower(o, &mut |_, _| {})?)
     }
 
     /// The lines before structuring; `tables` is shown the finished tables.
@@ -996,6 +992,14 @@ fn is_label(l: &PseudoLine) -> bool {
 /// Whether one more brace may enclose these lines: a label stands inside as many as its indent, any other line inside one less.
 fn can_raise(lines: &[PseudoLine]) -> bool {
     lines.iter().all(|x| x.indent < if is_label(x) { 254 } else { 255 })
+}
+
+/// The end of `to_c`: the passes over the lowered lines, and the numbers of regions formed.
+pub fn structure(mut out: Vec<PseudoLine>) -> Result<(Vec<PseudoLine>, usize, usize), Refusal> {
+    let ifs = structure_ifs(&mut out)?;
+    let loops = structure_do_while(&mut out)?;
+    drop_unused_labels(&mut out);
+    Ok((out, ifs, loops))
 }
 
 /// `if (C) goto L; S…; L:` with no jump into `S` from outside → `if (!C) { S… } L:`.
