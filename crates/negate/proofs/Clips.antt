@@ -15,7 +15,7 @@ use Rattle.definition.specs.Negate.{beforeGoto, tail, trimFirst, cutLast, condO
 use Rattle.sheet.specs.Buffers.{kindAt, startAt, endAt, textAt, tokenAt, tokensIn}
 use Rattle.sheet.specs.Ranges.{between, SamePlace}
 use Rattle.negate.specs.declared.clip.Clip.{Clip}
-use Rattle.negate.specs.Clip.{clipFrom, clipTo, clipAt, hasText, clips, clip, Opened, Closed}
+use Rattle.negate.specs.Clip.{clipFrom, clipTo, clipAt, hasText, texts, clip, Opened, Closed}
 
 -- ---- places
 module _ (ks : List ℕ) (p q : ℕ) (same : SamePlace ks p q) where
@@ -48,6 +48,13 @@ module _ (ks : List ℕ) (c : Clip) (k : ℕ) where
   pub to-other : (x : ℕ) → (k + 1 ≡ c .count → ⊥) → x ≡ endAt ks (c .first + k) → x ≡ clipTo ks c k
   unfolding clipTo
   to-other x n e = rw (ne-eqb (k + 1) (c .count) n) e
+
+-- one token ends where the next begins
+pub clip-chain : (ks : List ℕ) (c : Clip) (k : ℕ) → 1 ≤ k → k + 1 < c .count → clipTo ks c k ≡ clipFrom ks c (k + 1)
+unfolding clipTo clipFrom startAt
+clip-chain ks c k g h =
+    let p : c .first + (k + 1) - 1 ≡ c .first + k = omega arith in
+    rw (ne-eqb (k + 1) (c .count) (λ z. omega arith), ne-eqb (k + 1) 1 (λ z. omega arith), ne-eqb (c .first + (k + 1)) 0 (λ z. omega arith), p)
 
 module _ (ks t : List ℕ) where
   -- ---- before `goto`
@@ -152,7 +159,7 @@ module _ (ks t : List ℕ) where
 
     -- too few tokens for a condition
     few : (l : ℕ) → l < 2 → trims (tokensIn ks t a l) ≡ clip ks t (record { first = a; count = 0; from = 0; to = 0 })
-    unfolding only cutLast trimFirst tail tokensIn range clip clips
+    unfolding only cutLast trimFirst tail tokensIn range clip texts
     few zero h = refl
     few (suc zero) h = refl
     few (suc (suc l)) h = absurd (omega arith)
@@ -163,7 +170,7 @@ module _ (ks t : List ℕ) where
     pub condition-is : (f e s x y z : ℕ) → 2 ≤ m → x ≡ startAt ks (a + 1) → y ≡ endAt ks (a + 1) → Opened t x y f
         → s ≡ clipFrom ks (record { first = a; count = m; from = f; to = 0 }) (m - 1) → z ≡ endAt ks (a + (m - 1)) → Closed t s z e
         → clip ks t (record { first = a; count = m; from = f; to = e }) ≡ condOf (tokensIn ks t a n)
-    unfolding clip clips tokensIn clipFrom
+    unfolding clip texts tokensIn clipFrom
     condition-is f e s x y z h p q o u v d =
         let i : suc (suc (m - 2)) ≡ m = omega arith in
         let j : suc (m - 2) ≡ m - 1 = omega arith in

@@ -14,7 +14,7 @@ use Rattle.room.proofs.Laws.{next, more, done}
 use Rattle.sheet.specs.Buffers.{kindAt, startAt, endAt, textAt, tokenAt, tokensIn}
 use Rattle.sheet.specs.Ranges.{between, SamePlace}
 use Rattle.negate.specs.declared.clip.Clip.{Clip}
-use Rattle.negate.specs.Clip.{clipFrom, clipTo, clipAt, hasText, clips, clip}
+use Rattle.negate.specs.Clip.{clipFrom, clipTo, clipAt, hasText, texts}
 use Rattle.negate.proofs.Clips.{token-same}
 
 -- one place more
@@ -70,20 +70,20 @@ module _ (ks t : List ℕ) where
     unfolding only hasText clipAt
     clip-some r₁ r k f e x b p q h z y w = rw (← p, ← q, ← h, z, ← y) (next r₁ r (tok x (between t f e)) [] w (done r₁))
 
-    pub clips-start : (r : Room) → seen r ≡ seen (emitAll r (clips ks t c (1 - 1)))
-    unfolding clips range only
-    clips-start r = done r
+-- tokens at places from 1 on, without empty ones
+module _ (f : ℕ → Token) where
+  pub texts-start : (r : Room) → seen r ≡ seen (emitAll r (texts f (1 - 1)))
+  unfolding texts range only
+  texts-start r = done r
 
-    pub clips-turn : (r₁ r r₀ : Room) (k : ℕ) → 1 ≤ k → seen r₁ ≡ seen (emitAll r (only hasText (clipAt ks t c k ∷ [])))
-        → seen r ≡ seen (emitAll r₀ (clips ks t c (k - 1))) → seen r₁ ≡ seen (emitAll r₀ (clips ks t c (k + 1 - 1)))
-    unfolding clips
-    clips-turn r₁ r r₀ k g e h =
-        let p : k + 1 - 1 ≡ suc (k - 1) = omega arith in
-        let q : 1 + (k - 1) ≡ k = omega arith in
-        let f = clipAt ks t c in
-        rw (p, map-snoc f 1 (k - 1), q, only-append hasText (map f (range 1 (k - 1))) (f k ∷ []))
-        (more r₁ r r₀ (only hasText (map f (range 1 (k - 1)))) (only hasText (f k ∷ [])) h e)
+  pub texts-turn : (r₁ r r₀ : Room) (k : ℕ) → 1 ≤ k → seen r₁ ≡ seen (emitAll r (only hasText (f k ∷ [])))
+      → seen r ≡ seen (emitAll r₀ (texts f (k - 1))) → seen r₁ ≡ seen (emitAll r₀ (texts f (k + 1 - 1)))
+  unfolding texts
+  texts-turn r₁ r r₀ k g e h =
+      let p : k + 1 - 1 ≡ suc (k - 1) = omega arith in
+      let q : 1 + (k - 1) ≡ k = omega arith in
+      rw (p, map-snoc f 1 (k - 1), q, only-append hasText (map f (range 1 (k - 1))) (f k ∷ []))
+      (more r₁ r r₀ (only hasText (map f (range 1 (k - 1)))) (only hasText (f k ∷ [])) h e)
 
-    pub clips-end : (r r₀ : Room) (k : ℕ) → k - 1 ≡ c .count - 1 → seen r ≡ seen (emitAll r₀ (clips ks t c (k - 1))) → seen r ≡ seen (emitAll r₀ (clip ks t c))
-    unfolding clip
-    clips-end r r₀ k e h = rw (← e) h
+  pub texts-end : (r r₀ : Room) (k n : ℕ) → k - 1 ≡ n → seen r ≡ seen (emitAll r₀ (texts f (k - 1))) → seen r ≡ seen (emitAll r₀ (texts f n))
+  texts-end r r₀ k n e h = rw (← e) h

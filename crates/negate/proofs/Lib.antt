@@ -2,4 +2,8 @@ pub mod Trims
 pub mod Ranges
 pub mod Clips
 pub mod Emits
+pub mod Comparing
+pub mod Looking
+pub mod Orders
+pub mod Negating
 pub mod Unique

@@ -15,7 +15,7 @@ use Rattle.sheet.proofs.Reading.{least-left, least-le, range-is, length-between
 use Rattle.negate.specs.Clip.{Opened, Closed}
 use Rattle.negate.proofs.Trims.{drop-take, trim-step, trim-stop, cut-short, cut-not}
 
-drop-between : (t : List ℕ) (i e n : ℕ) → drop n (between t i e) ≡ between t (i + n) e
+pub drop-between : (t : List ℕ) (i e n : ℕ) → drop n (between t i e) ≡ between t (i + n) e
 unfolding between part
 drop-between t i e n =
     let p : e - i - n ≡ e - (i + n) = omega arith in

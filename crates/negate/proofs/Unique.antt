@@ -1,18 +1,23 @@
 -- Each contract of this crate determines what is seen of the room, or the tokens that a condition is, so no second result says otherwise.
 use mathlib.Core.Path.{_≡_}
+use mathlib.Core.Bool.{Bool}
 use mathlib.Core.Option.{Option}
 use mathlib.Core.List.{List}
 use Prim.Native.Nat.{ℕ}
+use lib.Dec.{eqb}
+use Rattle.definition.specs.Lists.{count}
 use Rattle.definition.specs.Tokens.{Token, tok}
-use Rattle.definition.specs.Negate.{condOf}
+use Rattle.definition.specs.Negate.{compares as comparesIn, condOf}
 use Rattle.text.proofs.Unique.{equation}
 use Rattle.room.specs.Room.{Room, emit, emitAll, seen}
 use Rattle.sheet.specs.Buffers.{tokensIn}
 use Rattle.sheet.specs.Ranges.{between}
 use Rattle.negate.specs.declared.clip.Clip.{Clip}
+use Rattle.negate.specs.declared.looks.Look.{Look}
 use Rattle.negate.specs.Clip.{clipFrom, clipTo, clip}
+use Rattle.negate.specs.Flipping.{unseen, looked}
 
--- put_line, put_clip, put_condition, put_close, put_do, put_while: they differ in the pieces alone
+-- put_line, put_clip_at, put_clip, put_condition, put_opposite, put_negated, put_open, put_close, put_do, put_while: they differ in the pieces alone
 pub pieces : (x : Room) (ps : List Token) (r s : Option Room) → r ≡ seen (emitAll x ps) → s ≡ seen (emitAll x ps) → r ≡ s
 pieces x ps = equation (seen (emitAll x ps))
 
@@ -27,3 +32,12 @@ clip-from ks c k = equation (clipFrom ks c k)
 
 pub clip-to : (ks : List ℕ) (c : Clip) (k r s : ℕ) → r ≡ clipTo ks c k → s ≡ clipTo ks c k → r ≡ s
 clip-to ks c k = equation (clipTo ks c k)
+
+pub count-between : (t : List ℕ) (f e b r s : ℕ) → r ≡ count (eqb b) (between t f e) → s ≡ count (eqb b) (between t f e) → r ≡ s
+count-between t f e b = equation (count (eqb b) (between t f e))
+
+pub compares : (t : List ℕ) (f e : ℕ) (r s : Bool) → r ≡ comparesIn (between t f e) → s ≡ comparesIn (between t f e) → r ≡ s
+compares t f e = equation (comparesIn (between t f e))
+
+pub look-over : (us : List Token) (r s : Look) → r ≡ looked unseen 1 us → s ≡ looked unseen 1 us → r ≡ s
+look-over us = equation (looked unseen 1 us)

@@ -3,11 +3,11 @@
 use mathlib.Core.Path.{_≡_}
 use mathlib.Core.Bool.{Bool, not, cond}
 use mathlib.Core.List.{List, map}
-use Prim.Native.Nat.{ℕ, _+_, _-_, _≤_}
+use Prim.Native.Nat.{ℕ, _+_, _-_, _≤_, _<_}
 use lib.Dec.{eqb}
 use Rattle.definition.specs.Texts.{txt, isEmpty, trimStart, cutEnd}
 use Rattle.definition.specs.Lists.{range, only}
-use Rattle.definition.specs.Tokens.{Token, tok}
+use Rattle.definition.specs.Tokens.{Token, tok, textOf}
 use Rattle.sheet.specs.Buffers.{kindAt, startAt, endAt}
 use Rattle.sheet.specs.Ranges.{between}
 use Rattle.negate.specs.declared.clip.Clip.{Clip}
@@ -26,13 +26,22 @@ clipAt ks t c k = tok (kindAt ks (c .first + k)) (between t (clipFrom ks c k) (c
 unfoldable pub hasText : Token → Bool
 hasText u = not (isEmpty (u .text))
 
--- n of its tokens, without empty ones
-unfoldable pub clips : List ℕ → List ℕ → Clip → ℕ → List Token
-clips ks t c n = only hasText (map (clipAt ks t c) (range 1 n))
+-- n tokens, without empty ones
+unfoldable pub texts : (ℕ → Token) → ℕ → List Token
+texts f n = only hasText (map f (range 1 n))
 
--- all of them
+-- its tokens
 unfoldable pub clip : List ℕ → List ℕ → Clip → List Token
-clip ks t c = clips ks t c (c .count - 1)
+clip ks t c = texts (clipAt ks t c) (c .count - 1)
+
+-- the ends of the n tokens from place a on rise
+pub record Rises (ks : List ℕ) (a n : ℕ) : Type 0 where
+  pub each : (k : ℕ) → k < n → startAt ks (a + k) ≤ endAt ks (a + k)
+
+-- so do those of the condition's tokens, and their texts are one range
+pub record Orderly (ks t : List ℕ) (c : Clip) : Type 0 where
+  pub each : (k : ℕ) → 1 ≤ k → k < c .count → clipFrom ks c k ≤ clipTo ks c k
+  pub whole : textOf (clip ks t c) ≡ between t (c .from) (c .to)
 
 -- a range without its leading ` (`
 pub record Opened (t : List ℕ) (from to r : ℕ) : Type 0 where

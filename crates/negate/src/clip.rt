@@ -14,7 +14,7 @@ ghost use Rattle.definition.specs.Tokens.{keyword};
 ghost use Rattle.definition.specs.Sorts.{isTok};
 ghost use Rattle.definition.specs.Negate.{beforeGoto, condOf};
 ghost use Rattle.sheet.specs.Buffers.{startAt, endAt, tokenAt, tokensIn};
-ghost use Rattle.negate.specs.Clip.{clipFrom, clipTo, clip as clipOf, Opened, Closed};
+ghost use Rattle.negate.specs.Clip.{clipFrom, clipTo, clip as clipOf, Rises, Orderly, Opened, Closed};
 
 // The tokens at the places 1 to `count` - 1 behind `first`.
 pub struct Clip {
@@ -112,7 +112,8 @@ pub fn clip_to(tokens: &[u64], c: Clip, k: usize) -> usize
 
 // The condition of the jump that is n tokens from place a on.
 pub fn condition(tokens: &[u64], text: &[u8], a: usize, n: usize) -> Clip
-    ensures { λ r. ⌜ clipOf (now (tokens .entry)) (now (text .entry)) r ≡ condOf (tokensIn (now (tokens .entry)) (now (text .entry)) a n) ⌝ }
+    ensures { λ r. ⌜ (clipOf (now (tokens .entry)) (now (text .entry)) r ≡ condOf (tokensIn (now (tokens .entry)) (now (text .entry)) a n))
+        × (Rises (now (tokens .entry)) a n → Orderly (now (tokens .entry)) (now (text .entry)) r) ⌝ }
 {
     let m = before_goto(tokens, text, a, n);
     if m < 2 {

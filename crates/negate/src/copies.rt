@@ -90,7 +90,7 @@ pub fn put_line(
 }
 
 // The token of a condition at place k, unless it is empty.
-fn put_clip_at(
+pub fn put_clip_at(
     tokens: &mut [u64],
     text: &mut [u8],
     out: Out,

@@ -1,11 +1,14 @@
 // The lines that a region begins and ends with, without their ends.
+use crate::clip::condition;
 use crate::copies::put_condition;
+use crate::negation::put_negated;
 use room::out::Out;
 use room::put::put;
 ghost use mathlib.Core.Path.{_≡_};
-ghost use Rattle.definition.specs.Negate.{closeTokens, doTokens, whileTokens};
+ghost use Rattle.definition.specs.Negate.{openTokens, closeTokens, doTokens, whileTokens};
 ghost use Rattle.room.specs.Room.{roomOf, emitAll, seen};
 ghost use Rattle.sheet.specs.Buffers.{tokensIn};
+ghost use Rattle.negate.specs.Clip.{Rises};
 
 const KEYWORD: u32 = 3;
 
@@ -26,6 +29,27 @@ pub fn put_do(tokens: &mut [u64], text: &mut [u8], out: Out) -> Out
 {
     let out = put(tokens, text, out, KEYWORD, b"do");
     put(tokens, text, out, PUNCT, b" {")
+}
+
+// `if (!C) {` of the jump that is n tokens from place a on.
+pub fn put_open(
+    tokens: &mut [u64],
+    text: &mut [u8],
+    out: Out,
+    lowered: &[u64],
+    source: &[u8],
+    a: usize,
+    n: usize,
+) -> Out
+    requires { ⌜ Rises (now lowered) a n ⌝ }
+    ensures { λ r. ⌜ seen (roomOf (now (tokens .exit)) (now (text .exit)) r)
+        ≡ seen (emitAll (roomOf (now (tokens .entry)) (now (text .entry)) out) (openTokens (tokensIn (now (lowered .entry)) (now (source .entry)) a n))) ⌝ }
+{
+    let out = put(tokens, text, out, KEYWORD, b"if");
+    let out = put(tokens, text, out, PUNCT, b" (");
+    let c = condition(lowered, source, a, n);
+    let out = put_negated(tokens, text, out, lowered, source, c);
+    put(tokens, text, out, PUNCT, b") {")
 }
 
 // `} while (C);` of the jump that is n tokens from place a on.

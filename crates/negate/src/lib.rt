@@ -2,3 +2,6 @@
 pub mod clip;
 pub mod copies;
 pub mod heads;
+pub mod looks;
+pub mod negation;
+pub mod signs;

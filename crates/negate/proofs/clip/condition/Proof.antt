@@ -1,3 +1,4 @@
+use Rattle.negate.proofs.Orders.{orderly-none, orderly-is}
 use Rattle.negate.proofs.Clips.{condition-none, condition-is}
 use Prim.Native.Nat.{_≤_}
 use native.Mathlib.Omega.{arith}
@@ -17,7 +18,7 @@ before-goto-requires : tie.Need-before-goto-requires
 before-goto-requires c κs = search needs
 
 returns : tie.Need-returns
-returns c = let a = c .before .before .before .before .args in condition-none (a .tokens .now) (a .text .now) (a .a) (a .n) (c .before .before-goto .result) (c .before .before-goto .ensures) (c .if1 .taken)
+returns c = let a = c .before .before .before .before .args in (condition-none (a .tokens .now) (a .text .now) (a .a) (a .n) (c .before .before-goto .result) (c .before .before-goto .ensures) (c .if1 .taken), λ h. orderly-none (a .tokens .now) (a .text .now) (a .a) (a .n))
 
 token-start-requires : tie.Need-token-start-requires
 token-start-requires c κs = search needs
@@ -44,7 +45,7 @@ before-close-requires : tie.Need-before-close-requires
 before-close-requires c κs = search needs
 
 returns-2 : tie.Need-returns-2
-returns-2 c = let a = c .before .before .before .before .before .before .before .before .before .before .args in let h : 2 ≤ c .before .before .before .before .before .before .before .before-goto .result = omega arith in condition-is (a .tokens .now) (a .text .now) (a .a) (a .n) (c .before .before .before .before .before .before .before .before-goto .result) (c .before .before .before .before .before .before .before .before-goto .ensures) _ _ _ _ _ _ h (c .before .before .before .before .before .token-start .ensures) (c .before .before .before .before .token-end .ensures) (c .before .before .before .after-opens .ensures) (c .before .before .clip-from .ensures) (c .before .token-end2 .ensures) (c .before-close .ensures)
+returns-2 c = let a = c .before .before .before .before .before .before .before .before .before .before .args in let h : 2 ≤ c .before .before .before .before .before .before .before .before-goto .result = omega arith in (condition-is (a .tokens .now) (a .text .now) (a .a) (a .n) (c .before .before .before .before .before .before .before .before-goto .result) (c .before .before .before .before .before .before .before .before-goto .ensures) _ _ _ _ _ _ h (c .before .before .before .before .before .token-start .ensures) (c .before .before .before .before .token-end .ensures) (c .before .before .before .after-opens .ensures) (c .before .before .clip-from .ensures) (c .before .token-end2 .ensures) (c .before-close .ensures), orderly-is (a .tokens .now) (a .text .now) (a .a) (a .n) (c .before .before .before .before .before .before .before .before-goto .result) _ _ _ _ _ _ (c .before .before .before .before .before .before .before .before-goto .ensures) h (c .before .before .before .before .before .token-start .ensures) (c .before .before .before .before .token-end .ensures) (c .before .before .before .after-opens .ensures) (c .before .before .clip-from .ensures) (c .before .token-end2 .ensures) (c .before-close .ensures))
 
 pub condition-spec : {M : Type 1} → statement M
 condition-spec =

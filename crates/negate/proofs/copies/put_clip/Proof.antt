@@ -1,5 +1,5 @@
-use Rattle.negate.proofs.Emits.{clips-start, clips-turn, clips-end}
-use Rattle.negate.specs.Clip.{clips}
+use Rattle.negate.proofs.Emits.{texts-start, texts-turn, texts-end}
+use Rattle.negate.specs.Clip.{texts, clipAt, clip}
 use Rattle.room.specs.Room.{roomOf, emitAll, seen}
 use lib.ListN.{length}
 use Prim.Native.Nat.{_-_, _≤_}
@@ -13,13 +13,13 @@ use Rattle.negate.proofs.copies.put_clip.Lts as lts
 use Rattle.negate.proofs.copies.put_clip_at.Reads as put-clip-at-reads
 
 abbrev Inv-loop : tie.InvT-loop
-Inv-loop tokens₀ text₀ lowered source c out₀ k₀ tokens text out k = (seen (roomOf tokens text out) ≡ seen (emitAll (roomOf tokens₀ text₀ out₀) (clips lowered source c (k - 1)))) × (1 ≤ k) × (k - 1 ≤ c .count - 1) × (length tokens ≡ length tokens₀) × (length text ≡ length text₀)
+Inv-loop tokens₀ text₀ lowered source c out₀ k₀ tokens text out k = (seen (roomOf tokens text out) ≡ seen (emitAll (roomOf tokens₀ text₀ out₀) (texts (clipAt lowered source c) (k - 1)))) × (1 ≤ k) × (k - 1 ≤ c .count - 1) × (length tokens ≡ length tokens₀) × (length text ≡ length text₀)
 
 abbrev μ-loop : tie.MeasureT-loop
 μ-loop tokens₀ text₀ lowered source c out₀ k₀ tokens text out k = c .count - k
 
 loop-holds : tie.Need-loop-holds Inv-loop μ-loop
-loop-holds c = (clips-start _ _ _ _, omega arith, omega arith, refl, refl)
+loop-holds c = (texts-start _ _, omega arith, omega arith, refl, refl)
 
 put-clip-at-requires : tie.Need-put-clip-at-requires Inv-loop μ-loop
 put-clip-at-requires c κs = search needs
@@ -31,7 +31,7 @@ loop-less : tie.Need-loop-less Inv-loop μ-loop
 loop-less c = omega arith
 
 loop-again : tie.Need-loop-again Inv-loop μ-loop
-loop-again c = let inv = c .before .before .before .before .before .before .before .before .before .loop .inv in (clips-turn _ _ _ _ _ _ _ (inv .1) (c .before .before .before .before .put-clip-at .ensures) (inv .0), omega arith, omega arith, c .before .before .before .before .put-clip-at .kept .0 ∙ inv .3, c .before .before .before .before .put-clip-at .kept .1 .0 ∙ inv .4)
+loop-again c = let inv = c .before .before .before .before .before .before .before .before .before .loop .inv in (texts-turn _ _ _ _ _ (inv .1) (c .before .before .before .before .put-clip-at .ensures) (inv .0), omega arith, omega arith, c .before .before .before .before .put-clip-at .kept .0 ∙ inv .3, c .before .before .before .before .put-clip-at .kept .1 .0 ∙ inv .4)
 
 same-length : tie.Need-same-length Inv-loop μ-loop
 same-length c = c .before .before .loop .inv .3
@@ -40,7 +40,8 @@ same-length-2 : tie.Need-same-length-2 Inv-loop μ-loop
 same-length-2 c = c .before .before .loop .inv .4
 
 returns : tie.Need-returns Inv-loop μ-loop
-returns c = let z : c .before .before .loop .k - 1 ≡ c .before .before .before .before .before .before .before .args .c .count - 1 = omega arith in clips-end _ _ _ _ _ _ z (c .before .before .loop .inv .0)
+unfolding clip
+returns c = let z : c .before .before .loop .k - 1 ≡ c .before .before .before .before .before .before .before .args .c .count - 1 = omega arith in texts-end _ _ _ _ _ z (c .before .before .loop .inv .0)
 
 pub put-clip-spec : {M : Type 1} → statement M
 put-clip-spec =

@@ -20,7 +20,7 @@ same-length-2 : tie.Need-same-length-2
 same-length-2 c = search needs
 
 returns : tie.Need-returns
-returns c = pieces-are _ _ _ _ (c .before .before .before .before .put-clip .ensures) (c .before .before .before .before .before .before .before .condition .ensures)
+returns c = pieces-are _ _ _ _ (c .before .before .before .before .put-clip .ensures) (c .before .before .before .before .before .before .before .condition .ensures .0)
 
 pub put-condition-spec : {M : Type 1} → statement M
 put-condition-spec =

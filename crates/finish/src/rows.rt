@@ -1,0 +1,58 @@
+// A row's lowered line, read off the lowered buffers.
+use passes::rows::kind_of;
+use room::out::At;
+use sheet::lines::first_of;
+use sheet::lines::last_of;
+use sheet::tokens::number_at;
+ghost use mathlib.Core.Path.{_≡_};
+ghost use Rattle.room.specs.Room.{optionOf};
+ghost use Rattle.passes.specs.Rows.{originOf};
+ghost use Rattle.finish.specs.Finishing.{countOf, addressIn, rowAddress};
+
+// The kind of a closing row.
+pub const CLOSE: u64 = 6;
+
+// The numbers of a line.
+const ROW: usize = 5;
+
+// The lowered line that the row comes from.
+pub fn origin_of(w: u64) -> usize
+    ensures { λ r. ⌜ r ≡ originOf w ⌝ }
+{
+    (w / 1099511627776) as usize
+}
+
+// How many tokens line i has.
+pub fn count_of(from: &[u64], i: usize) -> usize
+    ensures { λ r. ⌜ r ≡ countOf (now (from .entry)) i ⌝ }
+{
+    let a = first_of(from, i);
+    let b = last_of(from, i);
+    if b < a {
+        return 0;
+    }
+    b - a
+}
+
+// What line i stands at.
+fn address_at(from: &[u64], i: usize) -> At
+    ensures { λ r. ⌜ optionOf r ≡ addressIn (now (from .entry)) i ⌝ }
+{
+    if from.len() / ROW < i {
+        return At::Nowhere;
+    }
+    if number_at(from, ROW * i) != 1 {
+        return At::Nowhere;
+    }
+    At::Address(number_at(from, ROW * i + 1))
+}
+
+// What the row's line stands at.
+pub fn row_address(from: &[u64], w: u64) -> At
+    ensures { λ r. ⌜ optionOf r ≡ rowAddress (now (from .entry)) w ⌝ }
+{
+    if kind_of(w) == CLOSE {
+        return At::Nowhere;
+    }
+    address_at(from, origin_of(w))
+}
