@@ -1,6 +1,7 @@
-//! The proved printer for Rust programs. So far its reader: checks 2 to 6 of a function file.
+//! The proved printer for Rust programs. So far its reader (checks 2 to 6 of a function file) and its tables (check 7, and all analyses).
 
 pub mod pieces;
+pub mod tables;
 
 use oracle::refusal::Refusal;
 

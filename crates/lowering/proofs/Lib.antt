@@ -1,0 +1,3 @@
+pub mod Gen
+pub mod Commas
+pub mod Unique

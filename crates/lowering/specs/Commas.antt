@@ -1,0 +1,32 @@
+-- Expressions with `, ` between them, by their numbers.
+use mathlib.Core.Bool.{Bool, true, cond}
+use mathlib.Core.List.{List, [], _∷_, _++_, map}
+use Prim.Native.Nat.{ℕ}
+use Rattle.definition.specs.Edition.{Edition}
+use Rattle.definition.specs.Texts.{txt}
+use Rattle.definition.specs.Lists.{range}
+use Rattle.definition.specs.Contents.{itemWord}
+use Rattle.definition.specs.Ssa.{Expr}
+use Rattle.definition.specs.Read.{treeAt, allTrees}
+use Rattle.definition.specs.Tokens.{Token, punct}
+use Rattle.lowering.specs.Lowered.{exprOf}
+
+-- before one that is not the first
+unfoldable pub comma : Bool → List Token
+comma more = cond more (punct (txt ", ") ∷ []) []
+
+-- expression n behind others or as the first; and such expressions
+unfoldable pub argOf : Edition → List ℕ → Bool → ℕ → List Token
+argOf E f more n = comma more ++ exprOf E f n
+
+unfoldable pub argsOf : Edition → List ℕ → Bool → List ℕ → List Token
+argsOf E f more [] = []
+argsOf E f more (n ∷ ns) = argOf E f more n ++ argsOf E f true ns
+
+-- the trees of these expressions
+unfoldable pub treesOf : Edition → List ℕ → List ℕ → List Expr
+treesOf E f ns = map (treeAt (allTrees E f)) ns
+
+-- the expressions that n list items from a on are
+unfoldable pub listed : List ℕ → ℕ → ℕ → List ℕ
+listed f a n = map (λ k. itemWord f k 0) (range a n)

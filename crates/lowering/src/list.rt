@@ -1,0 +1,114 @@
+// Expressions with `, ` between them.
+use records::contents::STATEMENTS;
+use records::contents::item_word;
+use records::contents::size_of;
+use render::expr::expr;
+use room::out::Out;
+use room::put::put;
+use values::places::Places;
+ghost use mathlib.Core.Path.{_≡_};
+ghost use mathlib.Core.List.{map};
+ghost use Prim.Native.Nat.{ℕ, _+_, _<_};
+ghost use Rattle.definition.specs.Edition.{Edition};
+ghost use Rattle.definition.specs.Contents.{text as textOf, itemWord};
+ghost use Rattle.definition.specs.Lists.{range};
+ghost use Rattle.definition.specs.Read.{treeAt, allTrees};
+ghost use Rattle.definition.specs.Lower.{commaList};
+ghost use Rattle.room.specs.Room.{roomOf, emitAll, seen};
+ghost use Rattle.render.specs.Told.{Told};
+ghost use Rattle.lowering.specs.Lowered.{loweringOf};
+ghost use Rattle.lowering.specs.Commas.{comma, argOf};
+
+const PUNCT: u32 = 6;
+
+// Before an expression that is not the first.
+fn put_comma(tokens: &mut [u64], text: &mut [u8], out: Out, more: bool) -> Out
+    ensures { λ r. ⌜ roomOf (now (tokens .exit)) (now (text .exit)) r
+        ≡ emitAll (roomOf (now (tokens .entry)) (now (text .entry)) out) (comma more) ⌝ }
+{
+    if more {
+        return put(tokens, text, out, PUNCT, b", ");
+    }
+    out
+}
+
+// Expression n, behind others or as the first. All values written in place are open behind the last statement.
+pub fn put_arg(
+    tokens: &mut [u64],
+    text: &mut [u8],
+    out: Out,
+    f: &[u8],
+    t: u32,
+    places: Places,
+    numbers: &[u32],
+    offs: &[u64],
+    placed: &[u32],
+    names: &[u32],
+    n: u32,
+    more: bool,
+) -> Out
+    requires { ⌜ Told (now f) t places (now numbers) (now offs) (now placed) (now names) ⌝ }
+    ensures { λ r. ⌜ ((E : Edition) → textOf E ≡ t → seen (roomOf (now (tokens .exit)) (now (text .exit)) r)
+        ≡ seen (emitAll (roomOf (now (tokens .entry)) (now (text .entry)) out) (argOf E (now (f .entry)) more n))) ⌝ }
+{
+    let pos = size_of(f, STATEMENTS);
+    let out = put_comma(tokens, text, out, more);
+    expr(
+        tokens,
+        text,
+        out,
+        f,
+        t,
+        places,
+        numbers,
+        offs,
+        placed,
+        names,
+        pos,
+        n,
+        true,
+    )
+}
+
+// n list items from `first` on.
+pub fn put_items(
+    tokens: &mut [u64],
+    text: &mut [u8],
+    out: Out,
+    f: &[u8],
+    t: u32,
+    places: Places,
+    numbers: &[u32],
+    offs: &[u64],
+    placed: &[u32],
+    names: &[u32],
+    first: u32,
+    n: u32,
+) -> Out
+    requires { ⌜ Told (now f) t places (now numbers) (now offs) (now placed) (now names) ⌝ }
+    requires { ⌜ first + n < 4294967296 ⌝ }
+    ensures { λ r. ⌜ ((E : Edition) → textOf E ≡ t → seen (roomOf (now (tokens .exit)) (now (text .exit)) r)
+        ≡ seen (emitAll (roomOf (now (tokens .entry)) (now (text .entry)) out) (commaList (loweringOf E (now (f .entry))) (map (treeAt (allTrees E (now (f .entry)))) (map (λ (k : ℕ). itemWord (now (f .entry)) (first + k) 0) (range 0 n)))))) ⌝ }
+{
+    let mut out = out;
+    let mut k: u32 = 0;
+    while k < n {
+        let x = item_word(f, first + k, 0);
+        out = put_arg(
+            tokens,
+            text,
+            out,
+            f,
+            t,
+            places,
+            numbers,
+            offs,
+            placed,
+            names,
+            x,
+            0 < k,
+        );
+        k += 1;
+    }
+    out
+}

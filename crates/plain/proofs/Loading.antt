@@ -1,0 +1,92 @@
+-- An expression loads from a slot where its record is a Load of a lower expression that has an offset; a child that is not lower counts as an Opaque.
+use mathlib.Core.Path.{_≡_, refl, sym, ap, ap₂, _∙_}
+use mathlib.Core.Bool.{Bool, false, not, _&&_}
+use mathlib.Core.List.{List, [], _∷_}
+use Prim.Native.Nat.{ℕ, zero, suc, _≤_, _<_}
+use native.Mathlib.Decide.{ℕ-discrete}
+use native.Mathlib.Omega.{arith}
+use lib.Dec.{eqb, ltb}
+use lib.ListN.{length, length-append, List·getD-append, List·getD-eq-default}
+use lib.Seq.{getD-at}
+use borrow.Author.Tests.{ltb-true, ltb-false, eq-eqb, ne-eqb}
+use Rattle.definition.specs.Edition.{Edition, expressions}
+use Rattle.definition.specs.Contents.{size, exprWord}
+use Rattle.definition.specs.Ssa.{Expr}
+use Rattle.definition.specs.Ssa.Expr.{Opaque}
+use Rattle.definition.specs.Read.{treeAt, tree, trees, allTrees, read}
+use Rattle.definition.specs.Offsets.{Known, offsets, stackOff}
+use Rattle.definition.specs.Lower.{isStackLoad}
+use Rattle.definition.proofs.Bools.{by-test}
+use Rattle.lowering.specs.Lowered.{loweringOf}
+use Rattle.lowering.proofs.Gen.{gen-offsets}
+
+-- ---- the trees of a file
+module _ (E : Edition) (f : List ℕ) where
+  trees-long : (n : ℕ) → length (trees E f n) ≡ n
+  unfolding trees
+  trees-long zero = refl
+  trees-long (suc n) = omega (arith, length-append (trees E f n) (tree E f (trees E f n) n ∷ []), trees-long n)
+
+  tree-lower : (n i : ℕ) → i < n → treeAt (trees E f n) i ≡ tree E f (trees E f i) i
+  unfolding trees
+  tree-lower zero i h = absurd (omega arith)
+  tree-lower (suc n) i h =
+      let t = trees E f n in
+      let l = trees-long n in
+      let below = tree-lower n i in
+      by-test (ltb i n)
+      (λ e. let b = ltb-true i n e in List·getD-append t (tree E f t n ∷ []) (Opaque []) i (omega arith) ∙ below b)
+      (λ e. let q : i ≡ n = omega (arith, ltb-false i n e) in
+      getD-at t (tree E f t n) [] (Opaque []) i (l ∙ sym q) ∙ ap (λ (m : ℕ). tree E f (trees E f m) m) (sym q))
+
+  tree-past : (n i : ℕ) → n ≤ i → treeAt (trees E f n) i ≡ Opaque []
+  tree-past n i h = List·getD-eq-default (trees E f n) (Opaque []) (omega (arith, trees-long n))
+
+-- ---- one of them
+no-offset : (k : List Known) → not (eqb (stackOff k (Opaque [])) 0) ≡ false
+unfolding stackOff
+no-offset k = refl
+
+module _ (E : Edition) (f : List ℕ) where
+  abbrev isLoad : Expr → Bool
+  isLoad x = isStackLoad (loweringOf E f) x
+
+  abbrev hasOffset : Expr → Bool
+  hasOffset x = not (eqb (stackOff (loweringOf E f .gen .offsets) x) 0)
+
+  load-node : (t : List Expr) (n : ℕ) → isLoad (tree E f t n) ≡ (eqb (exprWord f n 0) 5 && hasOffset (treeAt t (exprWord f n 2)))
+  unfolding isStackLoad tree
+  load-node t n = go (ℕ-discrete (exprWord f n 0) 1) (ℕ-discrete (exprWord f n 0) 2) (ℕ-discrete (exprWord f n 0) 3) (ℕ-discrete (exprWord f n 0) 4) (ℕ-discrete (exprWord f n 0) 5)
+    where
+      go : Dec (exprWord f n 0 ≡ 1) → Dec (exprWord f n 0 ≡ 2) → Dec (exprWord f n 0 ≡ 3) → Dec (exprWord f n 0 ≡ 4) → Dec (exprWord f n 0 ≡ 5)
+          → isLoad (tree E f t n) ≡ (eqb (exprWord f n 0) 5 && hasOffset (treeAt t (exprWord f n 2)))
+      go (yes e) b c d g = rw e
+      go (no a) (yes e) c d g = rw e
+      go (no a) (no b) (yes e) d g = rw e
+      go (no a) (no b) (no c) (yes e) g = rw e
+      go (no a) (no b) (no c) (no d) (yes e) = rw e
+      go (no a) (no b) (no c) (no d) (no g) =
+          rw (ne-eqb (exprWord f n 0) 1 a, ne-eqb (exprWord f n 0) 2 b, ne-eqb (exprWord f n 0) 3 c, ne-eqb (exprWord f n 0) 4 d, ne-eqb (exprWord f n 0) 5 g)
+
+  module _ (n m : ℕ) (all : m ≡ size f expressions) where
+    pub load-past : m ≤ n → false ≡ isLoad (treeAt (allTrees E f) n)
+    unfolding allTrees isStackLoad
+    load-past h = sym (ap isLoad (tree-past E f (size f expressions) n (omega arith)))
+
+    module _ (here : n < m) (g : ℕ) (tag : g ≡ exprWord f n 0) where
+      load-is : isLoad (treeAt (allTrees E f) n) ≡ (eqb (exprWord f n 0) 5 && hasOffset (treeAt (trees E f n) (exprWord f n 2)))
+      unfolding allTrees
+      load-is = ap isLoad (tree-lower E f (size f expressions) n (omega arith)) ∙ load-node (trees E f n) n
+
+      pub load-other : (g ≡ 5 → ⊥) → false ≡ isLoad (treeAt (allTrees E f) n)
+      load-other h = sym (load-is ∙ rw (← tag, ne-eqb g 5 h))
+
+      module _ (loads : g ≡ 5) (a : ℕ) (child : a ≡ exprWord f n 2) where
+        pub load-high : n ≤ a → false ≡ isLoad (treeAt (allTrees E f) n)
+        load-high h = sym (load-is ∙ rw (← tag, eq-eqb g 5 loads, ← child, tree-past E f n a h) (no-offset (loweringOf E f .gen .offsets)))
+
+        pub load-low : (o : ℕ) → a < n → o ≡ stackOff (offsets (read E f)) (treeAt (allTrees E f) a) → not (eqb o 0) ≡ isLoad (treeAt (allTrees E f) n)
+        unfolding allTrees
+        load-low o h e =
+            let same : treeAt (trees E f n) a ≡ treeAt (allTrees E f) a = tree-lower E f n a h ∙ sym (tree-lower E f (size f expressions) a (omega arith)) in
+            sym (load-is ∙ rw (← tag, eq-eqb g 5 loads, ← child) (ap (λ (x : ℕ). not (eqb x 0)) (ap₂ stackOff (gen-offsets E f) same ∙ sym e)))

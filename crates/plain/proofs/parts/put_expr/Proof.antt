@@ -1,0 +1,23 @@
+use Rattle.plain.proofs.Writing.{expr-put}
+use borrow.Author.Needs.{needs}
+use Rattle.plain.proofs.parts.put_expr.Statement.{statement}
+use Rattle.plain.proofs.parts.put_expr.Tie as tie
+
+size-of-requires : tie.Need-size-of-requires
+size-of-requires c κs = search needs
+
+expr-requires : tie.Need-expr-requires
+expr-requires c κs = search needs
+
+same-length : tie.Need-same-length
+same-length c = search needs
+
+same-length-2 : tie.Need-same-length-2
+same-length-2 c = search needs
+
+returns : tie.Need-returns
+returns c = λ E s. expr-put _ _ E _ _ _ (c .before .before .before .before .before .before .before .before .before .before .before .before .before .before .before .pre .ground .counts) (c .before .before .before .before .before .before .before .size-of .ensures) (c .before .before .before .before .expr .ensures E s)
+
+pub put-expr-spec : {M : Type 1} → statement M
+put-expr-spec =
+    tie.close (tie.spec size-of-requires expr-requires same-length same-length-2 returns)

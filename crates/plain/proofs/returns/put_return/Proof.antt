@@ -1,0 +1,41 @@
+use Rattle.plain.proofs.Writing.{return-put}
+use borrow.Author.Needs.{needs}
+use Rattle.plain.proofs.returns.put_return.Statement.{statement}
+use Rattle.plain.proofs.returns.put_return.Tie as tie
+
+slice-aggregate-put : tie.Need-slice-aggregate-put
+slice-aggregate-put c = search needs
+
+put-requires : tie.Need-put-requires
+put-requires c κs = search needs
+
+put-result-requires : tie.Need-put-result-requires
+put-result-requires c κs = search needs
+
+slice-aggregate-put-2 : tie.Need-slice-aggregate-put-2
+slice-aggregate-put-2 c = search needs
+
+put-requires-2 : tie.Need-put-requires-2
+put-requires-2 c κs = search needs
+
+same-length : tie.Need-same-length
+same-length c = search needs
+
+same-length-2 : tie.Need-same-length-2
+same-length-2 c = search needs
+
+returns : tie.Need-returns
+returns c = λ E s. return-put _ _ _ _ E _ _ (c .before .before .before .before .before .before .before .before .before .before .before .before .before .before .before .before .before .before .before .put .ensures) (c .before .before .before .before .before .before .before .before .before .before .before .before .put-result .ensures E s) (c .before .before .before .before .put2 .ensures)
+
+pub put-return-spec : {M : Type 1} → statement M
+put-return-spec =
+    tie.close
+    (tie.spec
+    slice-aggregate-put
+    put-requires
+    put-result-requires
+    slice-aggregate-put-2
+    put-requires-2
+    same-length
+    same-length-2
+    returns)

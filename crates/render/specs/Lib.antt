@@ -1,0 +1,4 @@
+pub mod Gens
+pub mod Told
+pub mod Forms
+pub mod Trims

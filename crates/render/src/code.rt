@@ -1,0 +1,31 @@
+// The name that a code says, as a token.
+use room::out::Out;
+use room::put::put_counted;
+use room::put::put_reg;
+ghost use mathlib.Core.Path.{_≡_};
+ghost use Rattle.definition.specs.Lookup.{nameOr};
+ghost use Rattle.definition.specs.Registers.{regName};
+ghost use Rattle.definition.specs.Tokens.{tok};
+ghost use Rattle.room.specs.Room.{roomOf, emit};
+ghost use Rattle.names.specs.Codes.{nameText};
+
+// 0 and 1 are the register's own name, 2 k is `a` k and 2 k + 1 is `v` k.
+pub fn put_code(
+    tokens: &mut [u64],
+    text: &mut [u8],
+    out: Out,
+    bits: u32,
+    reg: u32,
+    code: u32,
+) -> Out
+    ensures { λ r. ⌜ roomOf (now (tokens .exit)) (now (text .exit)) r
+        ≡ emit (roomOf (now (tokens .entry)) (now (text .entry)) out) (tok 1 (nameOr (regName bits reg) (nameText bits reg code))) ⌝ }
+{
+    if code < 2 {
+        return put_reg(tokens, text, out, bits, reg);
+    }
+    if code % 2 == 0 {
+        return put_counted(tokens, text, out, b"a", (code / 2) as u64);
+    }
+    put_counted(tokens, text, out, b"v", (code / 2) as u64)
+}
