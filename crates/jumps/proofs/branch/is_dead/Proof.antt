@@ -1,0 +1,17 @@
+use Rattle.reads.proofs.Visits.{dead-is}
+use borrow.Author.Needs.{needs}
+use Rattle.jumps.proofs.branch.is_dead.Statement.{statement}
+use Rattle.jumps.proofs.branch.is_dead.Tie as tie
+
+stmt-word-requires : tie.Need-stmt-word-requires
+stmt-word-requires c κs = search needs
+
+returns : tie.Need-returns
+returns c = dead-is _ _ _ (c .stmt-word .ensures)
+
+pub is-dead-spec : {M : Type 1} → statement M
+is-dead-spec =
+    tie.close
+    (tie.spec
+    stmt-word-requires
+    returns)

@@ -1,0 +1,274 @@
+// A conditional branch, and the goto to where its block falls.
+use crate::goto::name_line;
+use crate::goto::put_goto_name;
+use crate::parts::KEYWORD;
+use crate::parts::PUNCT;
+use crate::parts::SYMBOL;
+use crate::parts::end_stmt;
+use crate::parts::is_next;
+use conditions::condition::put_condition;
+use records::contents::block_long;
+use records::contents::block_word;
+use records::contents::stmt_long;
+use records::owners::block_stmts;
+use records::owners::stmt_field;
+use room::out::Out;
+use room::put::put;
+use values::places::Places;
+ghost use mathlib.Core.Path.{_≡_};
+ghost use Prim.Native.Nat.{_<_};
+ghost use Rattle.definition.specs.Edition.{Edition, blocks};
+ghost use Rattle.definition.specs.Contents.{size, text as textOf};
+ghost use Rattle.definition.specs.Owners.{firstStmt};
+ghost use Rattle.room.specs.Room.{roomOf, emitAll, seen, sheetOf, writeAll, seenSheet};
+ghost use Rattle.render.specs.Told.{Told};
+ghost use Rattle.jumps.specs.Given.{BlockAt};
+ghost use Rattle.jumps.specs.Written.{stmtLine, conditionOf, ifTokens, aimOf, testTokens, fallOf, ifLines};
+
+// The first statement of a block, behind those of the blocks before it.
+fn first_stmt(f: &[u8], block: u32) -> u32
+    requires { ⌜ firstStmt (now f) block < 4294967296 ⌝ }
+    ensures { λ r. ⌜ r ≡ firstStmt (now (f .entry)) block ⌝ }
+{
+    let mut n = 0;
+    let mut b = 0;
+    while b < block {
+        n += block_stmts(f, b);
+        b += 1;
+    }
+    n
+}
+
+// Where it goes: the block's taken edge, else its own target, else 0.
+fn aim(f: &[u8], block: u32, i: u32) -> u64
+    ensures { λ r. ⌜ r ≡ aimOf (now (f .entry)) block i ⌝ }
+{
+    if block_word(f, block, 2) == 1 {
+        return block_long(f, block, 3);
+    }
+    if stmt_field(f, i, 3) == 1 {
+        return stmt_long(f, i, 8);
+    }
+    0
+}
+
+// What it tests.
+fn put_tested(
+    tokens: &mut [u64],
+    text: &mut [u8],
+    out: Out,
+    f: &[u8],
+    t: u32,
+    places: Places,
+    numbers: &[u32],
+    offs: &[u64],
+    placed: &[u32],
+    names: &[u32],
+    block: u32,
+    i: u32,
+) -> Out
+    requires { ⌜ Told (now f) t places (now numbers) (now offs) (now placed) (now names) ⌝ }
+    requires { ⌜ BlockAt (now f) block ⌝ }
+    ensures { λ r. ⌜ ((E : Edition) → textOf E ≡ t → seen (roomOf (now (tokens .exit)) (now (text .exit)) r)
+        ≡ seen (emitAll (roomOf (now (tokens .entry)) (now (text .entry)) out) (conditionOf E (now (f .entry)) block i))) ⌝ }
+{
+    let first = first_stmt(f, block);
+    let n = block_stmts(f, block);
+    let start = stmt_field(f, i, 1);
+    let len = stmt_field(f, i, 2);
+    put_condition(
+        tokens,
+        text,
+        out,
+        f,
+        t,
+        places,
+        numbers,
+        offs,
+        placed,
+        names,
+        first,
+        n,
+        start,
+        len,
+    )
+}
+
+// `if (C`
+fn put_if(
+    tokens: &mut [u64],
+    text: &mut [u8],
+    out: Out,
+    f: &[u8],
+    t: u32,
+    places: Places,
+    numbers: &[u32],
+    offs: &[u64],
+    placed: &[u32],
+    names: &[u32],
+    block: u32,
+    i: u32,
+) -> Out
+    requires { ⌜ Told (now f) t places (now numbers) (now offs) (now placed) (now names) ⌝ }
+    requires { ⌜ BlockAt (now f) block ⌝ }
+    ensures { λ r. ⌜ ((E : Edition) → textOf E ≡ t → seen (roomOf (now (tokens .exit)) (now (text .exit)) r)
+        ≡ seen (emitAll (roomOf (now (tokens .entry)) (now (text .entry)) out) (ifTokens E (now (f .entry)) block i))) ⌝ }
+{
+    let out = put(tokens, text, out, KEYWORD, b"if");
+    let out = put(tokens, text, out, PUNCT, b" (");
+    put_tested(
+        tokens,
+        text,
+        out,
+        f,
+        t,
+        places,
+        numbers,
+        offs,
+        placed,
+        names,
+        block,
+        i,
+    )
+}
+
+// `if (C) goto NAME;`
+fn put_test(
+    tokens: &mut [u64],
+    text: &mut [u8],
+    out: Out,
+    f: &[u8],
+    t: u32,
+    places: Places,
+    numbers: &[u32],
+    offs: &[u64],
+    placed: &[u32],
+    names: &[u32],
+    block: u32,
+    i: u32,
+) -> Out
+    requires { ⌜ Told (now f) t places (now numbers) (now offs) (now placed) (now names) ⌝ }
+    requires { ⌜ BlockAt (now f) block ⌝ }
+    ensures { λ r. ⌜ ((E : Edition) → textOf E ≡ t → seen (roomOf (now (tokens .exit)) (now (text .exit)) r)
+        ≡ seen (emitAll (roomOf (now (tokens .entry)) (now (text .entry)) out) (testTokens E (now (f .entry)) block i))) ⌝ }
+{
+    let a = aim(f, block, i);
+    let out = put_if(
+        tokens,
+        text,
+        out,
+        f,
+        t,
+        places,
+        numbers,
+        offs,
+        placed,
+        names,
+        block,
+        i,
+    );
+    let out = put(tokens, text, out, PUNCT, b") ");
+    put_goto_name(tokens, text, out, SYMBOL, f, t, a)
+}
+
+// Its line.
+fn test_line(
+    lines: &mut [u64],
+    tokens: &mut [u64],
+    text: &mut [u8],
+    out: Out,
+    f: &[u8],
+    t: u32,
+    places: Places,
+    numbers: &[u32],
+    offs: &[u64],
+    placed: &[u32],
+    names: &[u32],
+    block: u32,
+    i: u32,
+) -> Out
+    requires { ⌜ Told (now f) t places (now numbers) (now offs) (now placed) (now names) ⌝ }
+    requires { ⌜ BlockAt (now f) block ⌝ }
+    ensures { λ r. ⌜ ((E : Edition) → textOf E ≡ t → seenSheet (sheetOf (now (lines .exit)) (now (tokens .exit)) (now (text .exit)) r)
+        ≡ seenSheet (writeAll (sheetOf (now (lines .entry)) (now (tokens .entry)) (now (text .entry)) out) (stmtLine (now (f .entry)) i (testTokens E (now (f .entry)) block i)))) ⌝ }
+{
+    let out = put_test(
+        tokens,
+        text,
+        out,
+        f,
+        t,
+        places,
+        numbers,
+        offs,
+        placed,
+        names,
+        block,
+        i,
+    );
+    end_stmt(lines, out, f, i)
+}
+
+// The goto to where the block falls, unless the next block is meant.
+fn fall_line(
+    lines: &mut [u64],
+    tokens: &mut [u64],
+    text: &mut [u8],
+    out: Out,
+    f: &[u8],
+    t: u32,
+    block: u32,
+    i: u32,
+) -> Out
+    requires { ⌜ block < size (now f) blocks ⌝ }
+    ensures { λ r. ⌜ ((E : Edition) → textOf E ≡ t → seenSheet (sheetOf (now (lines .exit)) (now (tokens .exit)) (now (text .exit)) r)
+        ≡ seenSheet (writeAll (sheetOf (now (lines .entry)) (now (tokens .entry)) (now (text .entry)) out) (fallOf E (now (f .entry)) block i))) ⌝ }
+{
+    if block_word(f, block, 5) != 1 {
+        return out;
+    }
+    let a = block_long(f, block, 6);
+    if is_next(f, block, a) {
+        return out;
+    }
+    name_line(lines, tokens, text, out, SYMBOL, f, t, i, a)
+}
+
+// Its line, and the goto to where the block falls.
+pub fn conditional(
+    lines: &mut [u64],
+    tokens: &mut [u64],
+    text: &mut [u8],
+    out: Out,
+    f: &[u8],
+    t: u32,
+    places: Places,
+    numbers: &[u32],
+    offs: &[u64],
+    placed: &[u32],
+    names: &[u32],
+    block: u32,
+    i: u32,
+) -> Out
+    requires { ⌜ Told (now f) t places (now numbers) (now offs) (now placed) (now names) ⌝ }
+    requires { ⌜ BlockAt (now f) block ⌝ }
+    ensures { λ r. ⌜ ((E : Edition) → textOf E ≡ t → seenSheet (sheetOf (now (lines .exit)) (now (tokens .exit)) (now (text .exit)) r)
+        ≡ seenSheet (writeAll (sheetOf (now (lines .entry)) (now (tokens .entry)) (now (text .entry)) out) (ifLines E (now (f .entry)) block i))) ⌝ }
+{
+    let out = test_line(
+        lines,
+        tokens,
+        text,
+        out,
+        f,
+        t,
+        places,
+        numbers,
+        offs,
+        placed,
+        names,
+        block,
+        i,
+    );
+    fall_line(lines, tokens, text, out, f, t, block, i)
+}
