@@ -17,8 +17,8 @@ use Rattle.meaning.proofs.meaning.refused6.Reads as refused6-reads
 use Rattle.records.proofs.edition.Edition.first.Reads as first-reads
 use Rattle.references.proofs.owned.clear.Reads as clear-reads
 use Rattle.references.proofs.references.refused5.Reads as refused5-reads
-use Rattle.shape.proofs.shape.refused2.Reads as refused2-reads
-use Rattle.shape.proofs.shape.refused3.Reads as refused3-reads
+use Rattle.shape.proofs.limits.refused2.Reads as refused2-reads
+use Rattle.shape.proofs.limits.refused3.Reads as refused3-reads
 use Rattle.shape.proofs.shape.refused4.Reads as refused4-reads
 
 pass2 : (c : tie.Else2) → refused2 edition1 (c .before .before .before .before .before .before .before .before .before .before .args .f .now) ≡ false
