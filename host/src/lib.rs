@@ -1,6 +1,9 @@
-//! The proved printer for Rust programs. So far its reader (checks 2 to 6 of a function file) and its tables (check 7, and all analyses).
+//! The proved printer for Rust programs. So far its reader (checks 2 to 6 of a function file), its tables (check 7, and all analyses) and its
+//! structuring passes.
 
+pub mod passes;
 pub mod pieces;
+pub mod sheet;
 pub mod tables;
 
 use oracle::refusal::Refusal;

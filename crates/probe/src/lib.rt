@@ -1,4 +1,6 @@
-// What a comparison with the Rust runs piece by piece: the writers and the tables, exported.
+// What a comparison with the Rust runs piece by piece: the writers, the tables and the structuring passes, exported.
+pub mod structuring;
+
 use tables::fill;
 use text::leaf::Wrote;
 use text::names::global_name;

@@ -1,0 +1,42 @@
+use Rattle.structure.proofs.Sheeted.{written-whole}
+use borrow.Author.Needs.{needs}
+use Rattle.structure.proofs.writing.write.Statement.{statement}
+use Rattle.structure.proofs.writing.write.Tie as tie
+use Rattle.structure.proofs.writing.write.Reads as reads
+use Rattle.structure.proofs.writing.write.Lts as lts
+use Rattle.finish.proofs.finish.Reads as finish-reads
+use Rattle.room.proofs.out.Out.start.Reads as start-reads
+use Rattle.structure.proofs.writing.count_tests.Reads as count-tests-reads
+
+start-requires : tie.Need-start-requires
+start-requires c κs = search needs
+
+finish-requires : tie.Need-finish-requires
+finish-requires c κs = search needs
+
+count-tests-requires : tie.Need-count-tests-requires
+count-tests-requires c κs = search needs
+
+same-length : tie.Need-same-length
+same-length c = search needs
+
+same-length-2 : tie.Need-same-length-2
+same-length-2 c = search needs
+
+same-length-3 : tie.Need-same-length-3
+same-length-3 c = search needs
+
+returns : tie.Need-returns
+returns c = let a = c .before .before .before .before .before .before .before .before .before .before .before .before .before .before .before .before .before .before .before .before .before .before .args in written-whole (a .from .now) (a .lowered .now) (a .source .now) (a .rows .now) _ _ _ _ _ _ (a .kept) _ _ _ (c .before .before .before .before .before .before .before .before .before .before .before .start .ensures) (c .before .before .before .before .before .before .before .before .before .before .finish .ensures) (c .count-tests .ensures)
+
+pub write-spec : {M : Type 1} → statement M
+write-spec =
+    tie.close
+    (tie.spec
+    start-requires
+    finish-requires
+    count-tests-requires
+    same-length
+    same-length-2
+    same-length-3
+    returns)
