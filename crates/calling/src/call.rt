@@ -1,7 +1,7 @@
 // The line of a call: `RESULT = TARGET(ARGS);`.
 use crate::args::put_args;
+use crate::callee::put_target;
 use crate::result::put_result;
-use crate::target::put_target;
 use records::contents::stmt_long;
 use records::contents::stmt_word;
 use room::line::end_line;
