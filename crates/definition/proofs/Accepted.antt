@@ -11,10 +11,14 @@ use borrow.Author.Tests.{ltb-false, le-ltb}
 use Rattle.definition.specs.Lists.{all, has}
 use Rattle.definition.specs.Texts.{txt}
 use Rattle.definition.specs.Edition.{Edition, Room}
+use Rattle.definition.specs.Shape.{refused4}
+use Rattle.definition.specs.References.{refused5}
+use Rattle.definition.specs.Meaning.{refused6}
 use Rattle.definition.specs.Read.{read}
-use Rattle.definition.specs.Offsets.{offsets}
+use Rattle.definition.specs.Offsets.{Known, offsets}
 use Rattle.definition.specs.Numbers.{label}
 use Rattle.definition.specs.Tokens.{Line, symbol, punct, line, merge}
+use Rattle.definition.specs.Blocks.{lower}
 use Rattle.definition.specs.Sorts.{Sort, sort}
 use Rattle.definition.specs.Passes.{condName, conds}
 use Rattle.definition.specs.Listing.{Listing, tokenCount, byteCount, refused8, structure, list}
@@ -59,6 +63,13 @@ unfolding line condName
 fit-shaped (labelled a) = subst (λ (s : Sort). FitAs (merge (symbol (label a) ∷ punct (txt ":") ∷ [])) (condName s)) (sym (label-line (label a))) tt
 fit-shaped (stated s) = fit-stated s
 
+-- lowered lines are plain, whatever 7, 8 and 9 say
+pub plain-lowered : (E : Edition) (f : List ℕ) (t : List Known) → endsWithText (E .sections) ≡ true → all (λ b. ltb b 256) f ≡ true
+    → refused4 E f ≡ false → refused5 E f ≡ false → refused6 E f ≡ false → Plain (lower (read E f) t)
+plain-lowered E f t ends bytes r4 r5 r6 =
+    let o = owed E f t ends bytes r4 r5 r6 in
+    record { flat = each-to (λ x. flat-shaped) (o .shaped); fits = each-to (λ x. fit-shaped) (o .shaped); once = λ n a. o .once n }
+
 -- ---- refusal 8: within the limits exactly when it is not given
 pub record Within (R : Room) (ls : List Line) : Type 0 where
   pub lines : length ls ≤ R .lines
@@ -93,7 +104,7 @@ module _ (E : Edition) (ends : endsWithText (E .sections) ≡ true) (f : List �
 
   -- the passes' premises
   pub is-plain : Plain (lowered E f)
-  is-plain = record { flat = each-to (λ x. flat-shaped) (owes .shaped); fits = each-to (λ x. fit-shaped) (owes .shaped); once = λ t a. owes .once t }
+  is-plain = plain-lowered E f (offsets (read E f)) ends bytes (sound 2) (sound 3) (sound 4)
 
   -- the finished listing has room: at most twice the lines, and no more tokens and text than lowering wrote
   pub roomy : Within (record { lines = E .lowered .lines + E .lowered .lines; tokens = E .lowered .tokens; bytes = E .lowered .bytes }) (L .lines)

@@ -7,3 +7,5 @@ pub mod Said
 pub mod Whole
 pub mod Filled
 pub mod Unique
+pub mod ProperLines
+pub mod EveryFile
