@@ -3,6 +3,7 @@
 
 pub mod passes;
 pub mod pieces;
+pub mod runs;
 pub mod sheet;
 pub mod tables;
 

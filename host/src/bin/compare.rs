@@ -5,22 +5,12 @@ use std::process::ExitCode;
 use std::time::{Duration, Instant};
 
 use host::Reader;
+use host::runs::{ended, through, Failure};
 use oracle::gen::{file, Profile};
 use oracle::read::read;
 
-const USAGE: &str = "usage: compare PROFILE|all SEED COUNT";
-
 fn main() -> ExitCode {
-    match run() {
-        Ok(line) => {
-            println!("{line}");
-            ExitCode::SUCCESS
-        }
-        Err((code, message)) => {
-            eprintln!("compare: {message}");
-            ExitCode::from(code)
-        }
-    }
+    ended("compare", run())
 }
 
 /// What a run measures.
@@ -34,22 +24,10 @@ struct Tally {
     longest: (Duration, u64),
 }
 
-fn run() -> Result<String, (u8, String)> {
-    let args: Vec<String> = std::env::args().skip(1).collect();
-    let [profile, seed, count] = args.as_slice() else { return Err((2, USAGE.into())) };
-    let number = |s: &String| s.parse::<u64>().map_err(|e| (2, format!("{s}: {e}")));
-    let (seed, count) = (number(seed)?, number(count)?);
-    let profiles: Vec<Profile> = Profile::ALL.iter().copied().filter(|p| profile == "all" || p.name() == profile).collect();
-    if profiles.is_empty() {
-        return Err((2, format!("no profile {profile}; {USAGE}")));
-    }
+fn run() -> Result<String, Failure> {
     let mut reader = Reader::default();
     let mut tally = Tally::default();
-    for p in profiles {
-        for s in seed..seed.saturating_add(count) {
-            one(&mut reader, &mut tally, p, s).map_err(|m| (1, format!("{} {s}: {m}", p.name())))?;
-        }
-    }
+    through("compare", |profile, seed| one(&mut reader, &mut tally, profile, seed))?;
     Ok(report(&tally))
 }
 
