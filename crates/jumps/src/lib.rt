@@ -5,5 +5,6 @@ pub mod conditional;
 pub mod goto;
 pub mod jump;
 pub mod label;
+mod named;
 pub mod parts;
 pub mod tail;

@@ -1,14 +1,12 @@
 // A jump out of the function: a raw goto, or a tail call.
 use crate::goto::name_line;
+use crate::named::put_call;
+use crate::named::put_return;
 use crate::parts::ADDRESS;
 use crate::parts::KEYWORD;
 use crate::parts::PUNCT;
-use crate::parts::SYMBOL;
-use crate::parts::TEXT;
 use crate::parts::end_stmt;
 use calls::targets::leaves_raw;
-use calls::targets::put_target;
-use lowering::list::put_items;
 use room::out::Out;
 use room::put::put;
 use values::places::Places;
@@ -17,128 +15,9 @@ ghost use mathlib.Core.Path.{_≡_};
 ghost use Prim.Native.Nat.{_+_, _<_};
 ghost use Rattle.definition.specs.Edition.{Edition};
 ghost use Rattle.definition.specs.Contents.{text as textOf};
-ghost use Rattle.room.specs.Room.{roomOf, emitAll, seen, sheetOf, writeAll, seenSheet};
+ghost use Rattle.room.specs.Room.{sheetOf, writeAll, seenSheet};
 ghost use Rattle.render.specs.Told.{Told};
-ghost use Rattle.jumps.specs.Written.{usesOf, stmtLine, nameTokens, callTokens, returnTokens, endTokens, tailOf, leaveOf};
-
-// `NAME(ARGS)`, with n list items from `item` on.
-fn put_named(
-    tokens: &mut [u64],
-    text: &mut [u8],
-    out: Out,
-    f: &[u8],
-    t: u32,
-    places: Places,
-    numbers: &[u32],
-    offs: &[u64],
-    placed: &[u32],
-    names: &[u32],
-    a: u64,
-    item: u32,
-    n: u32,
-) -> Out
-    requires { ⌜ Told (now f) t places (now numbers) (now offs) (now placed) (now names) ⌝ }
-    requires { ⌜ item + n < 4294967296 ⌝ }
-    ensures { λ r. ⌜ ((E : Edition) → textOf E ≡ t → seen (roomOf (now (tokens .exit)) (now (text .exit)) r)
-        ≡ seen (emitAll (roomOf (now (tokens .entry)) (now (text .entry)) out) (nameTokens E (now (f .entry)) a (usesOf E (now (f .entry)) item n)))) ⌝ }
-{
-    let out = put_target(tokens, text, out, SYMBOL, f, t, a);
-    let out = put(tokens, text, out, PUNCT, b"(");
-    let out = put_items(
-        tokens,
-        text,
-        out,
-        f,
-        t,
-        places,
-        numbers,
-        offs,
-        placed,
-        names,
-        item,
-        n,
-    );
-    put(tokens, text, out, PUNCT, b")")
-}
-
-// `NAME(ARGS);`
-fn put_call(
-    tokens: &mut [u64],
-    text: &mut [u8],
-    out: Out,
-    f: &[u8],
-    t: u32,
-    places: Places,
-    numbers: &[u32],
-    offs: &[u64],
-    placed: &[u32],
-    names: &[u32],
-    a: u64,
-    item: u32,
-    n: u32,
-) -> Out
-    requires { ⌜ Told (now f) t places (now numbers) (now offs) (now placed) (now names) ⌝ }
-    requires { ⌜ item + n < 4294967296 ⌝ }
-    ensures { λ r. ⌜ ((E : Edition) → textOf E ≡ t → seen (roomOf (now (tokens .exit)) (now (text .exit)) r)
-        ≡ seen (emitAll (roomOf (now (tokens .entry)) (now (text .entry)) out) (callTokens E (now (f .entry)) a (usesOf E (now (f .entry)) item n)))) ⌝ }
-{
-    let out = put_named(
-        tokens,
-        text,
-        out,
-        f,
-        t,
-        places,
-        numbers,
-        offs,
-        placed,
-        names,
-        a,
-        item,
-        n,
-    );
-    put(tokens, text, out, PUNCT, b";")
-}
-
-// `return NAME(ARGS);`
-fn put_return(
-    tokens: &mut [u64],
-    text: &mut [u8],
-    out: Out,
-    f: &[u8],
-    t: u32,
-    places: Places,
-    numbers: &[u32],
-    offs: &[u64],
-    placed: &[u32],
-    names: &[u32],
-    a: u64,
-    item: u32,
-    n: u32,
-) -> Out
-    requires { ⌜ Told (now f) t places (now numbers) (now offs) (now placed) (now names) ⌝ }
-    requires { ⌜ item + n < 4294967296 ⌝ }
-    ensures { λ r. ⌜ ((E : Edition) → textOf E ≡ t → seen (roomOf (now (tokens .exit)) (now (text .exit)) r)
-        ≡ seen (emitAll (roomOf (now (tokens .entry)) (now (text .entry)) out) (returnTokens E (now (f .entry)) a (usesOf E (now (f .entry)) item n)))) ⌝ }
-{
-    let out = put(tokens, text, out, KEYWORD, b"return");
-    let out = put(tokens, text, out, TEXT, b" ");
-    put_call(
-        tokens,
-        text,
-        out,
-        f,
-        t,
-        places,
-        numbers,
-        offs,
-        placed,
-        names,
-        a,
-        item,
-        n,
-    )
-}
+ghost use Rattle.jumps.specs.Written.{usesOf, stmtLine, callTokens, returnTokens, endTokens, tailOf, leaveOf};
 
 fn call_line(
     lines: &mut [u64],

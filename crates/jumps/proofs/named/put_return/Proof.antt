@@ -1,7 +1,7 @@
 use Rattle.jumps.proofs.Leaving.{return-put}
 use borrow.Author.Needs.{needs}
-use Rattle.jumps.proofs.tail.put_return.Statement.{statement}
-use Rattle.jumps.proofs.tail.put_return.Tie as tie
+use Rattle.jumps.proofs.named.put_return.Statement.{statement}
+use Rattle.jumps.proofs.named.put_return.Tie as tie
 
 slice-aggregate-put : tie.Need-slice-aggregate-put
 slice-aggregate-put c = search needs

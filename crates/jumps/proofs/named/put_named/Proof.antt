@@ -2,8 +2,8 @@ use Rattle.jumps.proofs.Leaving.{named-put}
 use Rattle.jumps.specs.Written.{nameOf}
 use mathlib.Core.Path.{_∙_}
 use borrow.Author.Needs.{needs}
-use Rattle.jumps.proofs.tail.put_named.Statement.{statement}
-use Rattle.jumps.proofs.tail.put_named.Tie as tie
+use Rattle.jumps.proofs.named.put_named.Statement.{statement}
+use Rattle.jumps.proofs.named.put_named.Tie as tie
 
 put-target-requires : tie.Need-put-target-requires
 put-target-requires c κs = search needs

@@ -1,7 +1,7 @@
 use Rattle.jumps.proofs.Leaving.{call-put}
 use borrow.Author.Needs.{needs}
-use Rattle.jumps.proofs.tail.put_call.Statement.{statement}
-use Rattle.jumps.proofs.tail.put_call.Tie as tie
+use Rattle.jumps.proofs.named.put_call.Statement.{statement}
+use Rattle.jumps.proofs.named.put_call.Tie as tie
 
 put-named-requires : tie.Need-put-named-requires
 put-named-requires c κs = search needs
