@@ -1,5 +1,6 @@
 // Where a jump goes: the label of a block, or else a supplied name that is no label's, or else the raw address.
 use crate::parts::begins_part;
+use digits::numbers::label;
 use marks::labels::block_of;
 use records::contents::name_word;
 use records::contents::offset_of;
@@ -11,7 +12,6 @@ use room::place::token;
 use room::put::put_outward;
 use text::names::Found;
 use text::names::name_for;
-use text::numbers::label;
 ghost use mathlib.Core.Path.{_≡_};
 ghost use Rattle.definition.specs.Edition.{Edition};
 ghost use Rattle.definition.specs.Lists.{among};

@@ -6,7 +6,7 @@ use Prim.Native.Nat.{ℕ}
 use Rattle.definition.specs.Tokens.{Token}
 use Rattle.text.proofs.Unique.{equation}
 use Rattle.room.specs.Room.{Room, Sheet, emitAll, seen, writeAll, seenSheet}
-use Rattle.passes.specs.Rows.{originOf}
+use Rattle.outline.specs.Rows.{originOf}
 use Rattle.finish.specs.Finishing.{countOf, rowAddress, kindToks, linesIn}
 
 pub finish : (x : Sheet) (ls ks t rows : List ℕ) (n : ℕ) (r s : Option Sheet) → r ≡ seenSheet (writeAll x (linesIn ls ks t rows n))

@@ -17,8 +17,8 @@ use Rattle.room.specs.Ending.{Ended}
 use Rattle.room.proofs.Laws.{seen-end, writes, written-none}
 use Rattle.sheet.specs.Buffers.{numberAt, tokensIn, firstOf, lastOf}
 use Rattle.sheet.proofs.Reading.{number-out}
-use Rattle.passes.specs.Rows.{kindOf, originOf, indentOf}
-use Rattle.passes.specs.Tests.{at}
+use Rattle.outline.specs.Rows.{kindOf, originOf, indentOf}
+use Rattle.outline.specs.Tests.{at}
 use Rattle.finish.specs.Finishing.{countOf, addressIn, rowAddress, laterToks, kindToks, originToks, rowLine, linesIn, Headed, HeadedRow, Heads}
 
 -- ---- a lowered line

@@ -13,9 +13,9 @@ use Rattle.definition.specs.Tokens.{Token, Line}
 use Rattle.definition.specs.Negate.{closeTokens, openTokens, doTokens, whileTokens}
 use Rattle.definition.specs.Listing.{lineNumbers}
 use Rattle.sheet.specs.Buffers.{numberAt, tokensIn, firstOf, lastOf, lineIn}
-use Rattle.passes.specs.Rows.{IF-OPEN, CLOSE, DO-OPEN, WHILE-CLOSE, kindOf, indentOf, originOf, lineAt}
-use Rattle.passes.specs.Tests.{at}
-use Rattle.negate.specs.Clip.{Rises}
+use Rattle.outline.specs.Rows.{IF-OPEN, CLOSE, DO-OPEN, WHILE-CLOSE, kindOf, indentOf, originOf, lineAt}
+use Rattle.outline.specs.Tests.{at}
+use Rattle.clips.specs.Clip.{Rises}
 
 -- how many tokens line i has
 unfoldable pub countOf : List ℕ → ℕ → ℕ

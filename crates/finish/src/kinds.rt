@@ -1,6 +1,6 @@
 // The tokens of a row, by its kind.
 use crate::rows::CLOSE;
-use negate::copies::put_line;
+use clips::copies::put_line;
 use negate::heads::put_close;
 use negate::heads::put_do;
 use negate::heads::put_open;

@@ -1,12 +1,12 @@
 // A row's lowered line, read off the lowered buffers.
-use passes::rows::kind_of;
+use outline::rows::kind_of;
 use room::out::At;
 use sheet::lines::first_of;
 use sheet::lines::last_of;
 use sheet::tokens::number_at;
 ghost use mathlib.Core.Path.{_≡_};
 ghost use Rattle.room.specs.Room.{optionOf};
-ghost use Rattle.passes.specs.Rows.{originOf};
+ghost use Rattle.outline.specs.Rows.{originOf};
 ghost use Rattle.finish.specs.Finishing.{countOf, addressIn, rowAddress};
 
 // The kind of a closing row.

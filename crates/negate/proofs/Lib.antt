@@ -1,9 +1,3 @@
-pub mod Trims
-pub mod Ranges
-pub mod Clips
-pub mod Emits
-pub mod Comparing
-pub mod Looking
-pub mod Orders
+pub mod Marks
 pub mod Negating
 pub mod Unique

@@ -12,10 +12,10 @@ use Rattle.definition.specs.Negate.{flips, flipIn}
 use Rattle.room.specs.Room.{Room, emitAll, seen}
 use Rattle.room.proofs.Laws.{done}
 use Rattle.sheet.specs.Ranges.{between}
-use Rattle.negate.specs.declared.clip.Clip.{Clip}
-use Rattle.negate.specs.Clip.{clipFrom, clipTo, clipAt, hasText}
+use Rattle.clips.specs.declared.clip.Clip.{Clip}
+use Rattle.clips.specs.Clip.{clipFrom, clipTo, clipAt, hasText}
 use Rattle.negate.specs.Flipping.{flipOf, flipped}
-use Rattle.negate.proofs.Looking.{flip-empty, flipped-there, flipped-other}
+use Rattle.negate.proofs.Marks.{flip-empty, flipped-there, flipped-other}
 
 -- ---- whether there is one comparison, and neither word
 module _ (n : ℕ) (p q : Bool) where

@@ -1,43 +1,26 @@
--- Each contract of this crate determines what is seen of the room, or the tokens that a condition is, so no second result says otherwise.
+-- Each contract of this crate determines what is seen of the room, so no second result says otherwise.
 use mathlib.Core.Path.{_≡_}
-use mathlib.Core.Bool.{Bool}
 use mathlib.Core.Option.{Option}
 use mathlib.Core.List.{List}
 use Prim.Native.Nat.{ℕ}
-use lib.Dec.{eqb}
-use Rattle.definition.specs.Lists.{count}
-use Rattle.definition.specs.Tokens.{Token, tok}
-use Rattle.definition.specs.Negate.{compares as comparesIn, condOf}
-use Rattle.text.proofs.Unique.{equation}
-use Rattle.room.specs.Room.{Room, emit, emitAll, seen}
-use Rattle.sheet.specs.Buffers.{tokensIn}
-use Rattle.sheet.specs.Ranges.{between}
-use Rattle.negate.specs.declared.clip.Clip.{Clip}
-use Rattle.negate.specs.declared.looks.Look.{Look}
-use Rattle.negate.specs.Clip.{clipFrom, clipTo, clip}
-use Rattle.negate.specs.Flipping.{unseen, looked}
+use Rattle.definition.specs.Tokens.{Token}
+use Rattle.definition.specs.Negate.{negate, openTokens, closeTokens, doTokens, whileTokens}
+use Rattle.room.specs.Room.{Room, emitAll, seen}
+use Rattle.clips.specs.declared.clip.Clip.{Clip}
+use Rattle.clips.specs.Clip.{clip}
+use Rattle.clips.proofs.Unique.{pieces}
 
--- put_line, put_clip_at, put_clip, put_condition, put_opposite, put_negated, put_open, put_close, put_do, put_while: they differ in the pieces alone
-pub pieces : (x : Room) (ps : List Token) (r s : Option Room) → r ≡ seen (emitAll x ps) → s ≡ seen (emitAll x ps) → r ≡ s
-pieces x ps = equation (seen (emitAll x ps))
+pub put-negated : (x : Room) (ks t : List ℕ) (c : Clip) (r s : Option Room) → r ≡ seen (emitAll x (negate (clip ks t c))) → s ≡ seen (emitAll x (negate (clip ks t c))) → r ≡ s
+put-negated x ks t c = pieces x (negate (clip ks t c))
 
-pub put-between : (x : Room) (k : ℕ) (t : List ℕ) (f e : ℕ) (r s : Room) → r ≡ emit x (tok k (between t f e)) → s ≡ emit x (tok k (between t f e)) → r ≡ s
-put-between x k t f e = equation (emit x (tok k (between t f e)))
+pub put-open : (x : Room) (us : List Token) (r s : Option Room) → r ≡ seen (emitAll x (openTokens us)) → s ≡ seen (emitAll x (openTokens us)) → r ≡ s
+put-open x us = pieces x (openTokens us)
 
-pub condition : (ks t : List ℕ) (a n : ℕ) (r s : Clip) → clip ks t r ≡ condOf (tokensIn ks t a n) → clip ks t s ≡ condOf (tokensIn ks t a n) → clip ks t r ≡ clip ks t s
-condition ks t a n r s = equation (condOf (tokensIn ks t a n)) (clip ks t r) (clip ks t s)
+pub put-while : (x : Room) (us : List Token) (r s : Option Room) → r ≡ seen (emitAll x (whileTokens us)) → s ≡ seen (emitAll x (whileTokens us)) → r ≡ s
+put-while x us = pieces x (whileTokens us)
 
-pub clip-from : (ks : List ℕ) (c : Clip) (k r s : ℕ) → r ≡ clipFrom ks c k → s ≡ clipFrom ks c k → r ≡ s
-clip-from ks c k = equation (clipFrom ks c k)
+pub put-close : (x : Room) (r s : Option Room) → r ≡ seen (emitAll x closeTokens) → s ≡ seen (emitAll x closeTokens) → r ≡ s
+put-close x = pieces x closeTokens
 
-pub clip-to : (ks : List ℕ) (c : Clip) (k r s : ℕ) → r ≡ clipTo ks c k → s ≡ clipTo ks c k → r ≡ s
-clip-to ks c k = equation (clipTo ks c k)
-
-pub count-between : (t : List ℕ) (f e b r s : ℕ) → r ≡ count (eqb b) (between t f e) → s ≡ count (eqb b) (between t f e) → r ≡ s
-count-between t f e b = equation (count (eqb b) (between t f e))
-
-pub compares : (t : List ℕ) (f e : ℕ) (r s : Bool) → r ≡ comparesIn (between t f e) → s ≡ comparesIn (between t f e) → r ≡ s
-compares t f e = equation (comparesIn (between t f e))
-
-pub look-over : (us : List Token) (r s : Look) → r ≡ looked unseen 1 us → s ≡ looked unseen 1 us → r ≡ s
-look-over us = equation (looked unseen 1 us)
+pub put-do : (x : Room) (r s : Option Room) → r ≡ seen (emitAll x doTokens) → s ≡ seen (emitAll x doTokens) → r ≡ s
+put-do x = pieces x doTokens

@@ -1,68 +1,9 @@
--- What is looked at in a condition to negate it, token by token: the parentheses so far, how many comparisons stand outside of them, and where the
--- last of these is.
-use mathlib.Core.Path.{_≡_}
-use mathlib.Core.Bool.{Bool, true, cond, _&&_}
-use mathlib.Core.List.{List, [], _∷_}
-use Prim.Native.Nat.{ℕ, suc, _+_, _≤_, _<_}
+-- A condition's tokens with the comparison of one of them flipped.
+use mathlib.Core.Bool.{cond}
+use Prim.Native.Nat.{ℕ}
 use lib.Dec.{eqb}
-use lib.ListN.{length, drop}
-use Rattle.definition.specs.Texts.{begins, contains}
-use Rattle.definition.specs.Lists.{count}
 use Rattle.definition.specs.Tokens.{Token, tok}
-use Rattle.definition.specs.Negate.{Flip, flips, flipIn, compares}
-use Rattle.sheet.specs.Ranges.{between}
-use Rattle.negate.specs.declared.clip.Clip.{Clip}
-use Rattle.negate.specs.declared.looks.Look.{Look}
-use Rattle.negate.specs.Clip.{clipFrom, clipTo}
-
--- 1 where the bytes are the same
-unfoldable pub alike : ℕ → ℕ → ℕ
-alike a b = cond (eqb a b) 1 0
-
--- how far into s the first w stands; behind all of s where it stands nowhere
-unfoldable pub placeOf : List ℕ → List ℕ → ℕ
-placeOf w [] = 0
-placeOf w (b ∷ s) = cond (begins w (b ∷ s)) 0 (suc (placeOf w s))
-
--- w, which is not empty, stands in the range
-pub record Stands (w t : List ℕ) (from to : ℕ) : Type 0 where
-  pub some : 0 < length w
-  pub inside : contains w (between t from to) ≡ true
-
--- the comparisons behind the first three
-unfoldable pub others : List Flip
-others = drop 3 flips
-
--- the parentheses behind a token, of those before it: only a Punct's count
-unfoldable pub opened : ℕ → Token → ℕ
-opened o u = cond (eqb (u .kind) 6) (o + count (eqb 40) (u .text)) o
-
-unfoldable pub shut : ℕ → Token → ℕ
-shut c u = cond (eqb (u .kind) 6) (c + count (eqb 41) (u .text)) c
-
--- is it a Punct with a comparison, at depth 0 behind it
-unfoldable pub marked : ℕ → ℕ → Token → Bool
-marked o c u = eqb (u .kind) 6 && eqb (opened o u) (shut c u) && compares (u .text)
-
--- nothing looked at, then the token at place k, and tokens from place k on
-unfoldable pub unseen : Look
-unseen = record { opens = 0; closes = 0; hits = 0; place = 0 }
-
-unfoldable pub stepped : Look → ℕ → Token → Look
-stepped l k u =
-    let m = marked (l .opens) (l .closes) u in
-    record { opens = opened (l .opens) u; closes = shut (l .closes) u; hits = cond m (l .hits + 1) (l .hits); place = cond m k (l .place) }
-
-unfoldable pub looked : Look → ℕ → List Token → Look
-looked l k [] = l
-looked l k (u ∷ us) = looked (stepped l k u) (k + 1) us
-
--- the parentheses before place k are bytes of the condition, so they can be counted
-pub record Within (ks : List ℕ) (c : Clip) (k : ℕ) (l : Look) : Type 0 where
-  pub opens : l .opens + c .from ≤ clipFrom ks c k
-  pub closes : l .closes + c .from ≤ clipFrom ks c k
-  pub hits : l .hits < k
-  pub rises : clipFrom ks c k ≤ clipTo ks c k
+use Rattle.definition.specs.Negate.{flips, flipIn}
 
 -- a token with its comparison flipped, and the tokens f with the one at place p so
 unfoldable pub flipOf : Token → Token

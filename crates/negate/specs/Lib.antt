@@ -1,2 +1,1 @@
-pub mod Clip
 pub mod Flipping

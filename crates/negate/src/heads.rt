@@ -1,14 +1,14 @@
 // The lines that a region begins and ends with, without their ends.
-use crate::clip::condition;
-use crate::copies::put_condition;
 use crate::negation::put_negated;
+use clips::clip::condition;
+use clips::copies::put_condition;
 use room::out::Out;
 use room::put::put;
 ghost use mathlib.Core.Path.{_≡_};
 ghost use Rattle.definition.specs.Negate.{openTokens, closeTokens, doTokens, whileTokens};
 ghost use Rattle.room.specs.Room.{roomOf, emitAll, seen};
 ghost use Rattle.sheet.specs.Buffers.{tokensIn};
-ghost use Rattle.negate.specs.Clip.{Rises};
+ghost use Rattle.clips.specs.Clip.{Rises};
 
 const KEYWORD: u32 = 3;
 

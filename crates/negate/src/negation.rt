@@ -1,11 +1,11 @@
 // A condition negated.
-use crate::clip::Clip;
-use crate::clip::clip_from;
-use crate::clip::clip_to;
-use crate::copies::put_clip;
-use crate::copies::put_clip_at;
-use crate::looks::look_over;
-use crate::signs::put_opposite;
+use clips::clip::Clip;
+use clips::clip::clip_from;
+use clips::clip::clip_to;
+use clips::copies::put_clip;
+use clips::copies::put_clip_at;
+use comparisons::looks::look_over;
+use comparisons::signs::put_opposite;
 use room::out::Out;
 use room::put::put;
 use sheet::ranges::contains_between;
@@ -21,7 +21,7 @@ ghost use Rattle.definition.specs.Tokens.{punct};
 ghost use Rattle.definition.specs.Negate.{negate};
 ghost use Rattle.room.specs.Room.{roomOf, emitAll, seen};
 ghost use Rattle.sheet.specs.Ranges.{between};
-ghost use Rattle.negate.specs.Clip.{clipAt, hasText, texts, clip as clipOf, Orderly};
+ghost use Rattle.clips.specs.Clip.{clipAt, hasText, texts, clip as clipOf, Orderly};
 ghost use Rattle.negate.specs.Flipping.{flipOf, flipped};
 
 const PUNCT: u32 = 6;

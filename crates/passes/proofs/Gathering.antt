@@ -11,13 +11,13 @@ use lib.ListN.{length, getD, take, drop, set, replicate, length-set, length-take
 use lib.Seq.{take-all, take-length, drop-length, take-at, drop-at, drop-drop, drop-cons, drop-set-lt, take-suc-set, append-snoc, length-take-le, drop-append-add}
 use Rattle.definition.specs.Lists.{only}
 use Rattle.definition.proofs.ListLaws.{total-only, total-length}
-use Rattle.passes.specs.Rows.{kindOf}
-use Rattle.passes.specs.Tests.{at}
-use Rattle.passes.specs.Spans.{spansOf, aimedOut}
-use Rattle.passes.specs.Forming.{nought, changedIn}
+use Rattle.outline.specs.Rows.{kindOf}
+use Rattle.outline.specs.Tests.{at}
+use Rattle.outline.specs.Spans.{spansOf, aimedOut}
+use Rattle.outline.specs.Forming.{nought, changedIn}
+use Rattle.outline.proofs.Verdicts.{label-is, label-not}
+use Rattle.outline.proofs.Moves.{zeros}
 use Rattle.passes.specs.Dropping.{keptRow, keptRows, Gathered, gathered, placed, gatherFrom, dropRows}
-use Rattle.passes.proofs.Verdicts.{label-is, label-not}
-use Rattle.passes.proofs.Moves.{zeros}
 
 module _ (S : List ℕ) (n w k : ℕ) (e : k ≡ kindOf w) where
   pub keep-other : (k ≡ 1 → ⊥) → true ≡ keptRow S n w

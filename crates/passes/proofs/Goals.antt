@@ -7,12 +7,12 @@ use Prim.Native.Nat.{ℕ, zero, suc, _+_, _-_, _≤_, _<_}
 use native.Mathlib.Omega.{arith}
 use borrow.Author.Tests.{eq-eqb, ne-eqb, eqb-true}
 use lib.Dec.{eqb, lit≤}
-use Rattle.passes.specs.Rows.{kindOf, indentOf, nameOf}
-use Rattle.passes.specs.Tests.{at, isLabel, isCond, labels, backs, stops, verdict, backVerdict, along}
-use Rattle.passes.specs.Spans.{outside}
-use Rattle.passes.specs.Forming.{onward, labelFrom, latest, backFrom, reachedIn, ifGoalAt, ifGoal, doGoalAt, doGoal}
-use Rattle.passes.proofs.Verdicts.{label-is, label-not, cond-is, cond-not}
-use Rattle.passes.proofs.Along.{along-turn, along-end}
+use Rattle.outline.specs.Rows.{kindOf, indentOf, nameOf}
+use Rattle.outline.specs.Tests.{at, isLabel, isCond, labels, backs, stops, verdict, backVerdict, along}
+use Rattle.outline.specs.Spans.{outside, reachedIn}
+use Rattle.outline.proofs.Verdicts.{label-is, label-not, cond-is, cond-not}
+use Rattle.outline.proofs.Along.{along-turn, along-end}
+use Rattle.passes.specs.Regions.{onward, labelFrom, latest, backFrom, ifGoalAt, ifGoal, doGoalAt, doGoal}
 
 three-le : (a b : Bool) (x y : ℕ) → x ≤ 2 → y ≤ 2 → cond a x (cond b y 0) ≤ 2
 three-le true b x y h k = h

@@ -8,10 +8,11 @@ use native.Mathlib.Numerals.{add-one}
 use borrow.Author.Tests.{eq-eqb, ne-eqb, lt-ltb, le-ltb, le-leb, lt-leb, leb-false}
 use lib.Dec.{eqb, leb}
 use lib.ListN.{length}
+use Rattle.outline.specs.Spans.{spansOf}
+use Rattle.outline.specs.Forming.{deepIn}
 use Rattle.passes.specs.declared.sweeps.Passed.the-variants.{TooDeep}
-use Rattle.passes.specs.Spans.{spansOf}
-use Rattle.passes.specs.Forming.{ifGoal, doGoal, formedIf, formedDo}
-use Rattle.passes.specs.Sweeps.{Tried, tried, triedAt, deepIn, ifTried, doTried, Swept, swept, done, sweepRows, keeps, ifRows, doRows}
+use Rattle.passes.specs.Regions.{ifGoal, doGoal, formedIf, formedDo}
+use Rattle.passes.specs.Sweeps.{Tried, tried, triedAt, ifTried, doTried, Swept, swept, done, sweepRows, keeps, ifRows, doRows}
 
 -- ---- a try, by its goal j, where `full` tells that there is no room
 module _ (R S : List ℕ) (n j : ℕ) (d f : Bool) (Q : List ℕ) (m : ℕ) where

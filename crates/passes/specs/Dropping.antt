@@ -4,8 +4,8 @@ use mathlib.Core.List.{List, _++_}
 use Prim.Native.Nat.{ℕ, zero, suc, _+_, _-_}
 use lib.ListN.{length, take, drop, set, replicate}
 use Rattle.definition.specs.Lists.{only}
-use Rattle.passes.specs.Tests.{at, isLabel}
-use Rattle.passes.specs.Spans.{spansOf, aimedOut}
+use Rattle.outline.specs.Tests.{at, isLabel}
+use Rattle.outline.specs.Spans.{spansOf, aimedOut}
 
 -- no label, or one that is aimed at from some row
 unfoldable pub keptRow : List ℕ → ℕ → ℕ → Bool

@@ -1,14 +1,14 @@
 -- The passes on rows: each row is tried once, the next row next.
 use mathlib.Core.Bool.{Bool, cond, _||_}
 use mathlib.Core.List.{List}
-use Prim.Native.Nat.{ℕ, zero, suc, _+_, _-_}
+use Prim.Native.Nat.{ℕ, zero, suc, _+_}
 use lib.Dec.{eqb, ltb, leb}
 use lib.ListN.{length}
+use Rattle.outline.specs.Spans.{spansOf}
+use Rattle.outline.specs.Forming.{deepIn}
 use Rattle.passes.specs.declared.sweeps.Passed.{Passed}
 use Rattle.passes.specs.declared.sweeps.Passed.the-variants.{Done, TooDeep}
-use Rattle.passes.specs.Tests.{tooDeep, someRow}
-use Rattle.passes.specs.Spans.{spansOf}
-use Rattle.passes.specs.Forming.{ifGoal, doGoal, formedIf, formedDo}
+use Rattle.passes.specs.Regions.{ifGoal, doGoal, formedIf, formedDo}
 
 -- a try at a row: 0 no region, 1 formed, 2 too deep or no room; and both tables behind it
 pub record Tried : Type 0 where
@@ -23,10 +23,6 @@ tried v R S = record { says = v; rows = R; spans = S }
 -- unless there is none, or it is too deep, a region takes the rows R to the m rows of Q
 unfoldable pub triedAt : Bool → Bool → List ℕ → List ℕ → List ℕ → ℕ → Tried
 triedAt b d R S Q m = cond b (tried 0 R S) (cond d (tried 2 R S) (tried 1 Q (spansOf (length S) Q m)))
-
--- a row from i up to j, raised, would stand too deep
-unfoldable pub deepIn : List ℕ → ℕ → ℕ → Bool
-deepIn R i j = someRow tooDeep R i (j - i)
 
 -- the try of the if at row k of n: no room is as too deep
 unfoldable pub ifTried : List ℕ → List ℕ → ℕ → ℕ → Tried

@@ -1,10 +1,10 @@
 // `drop_unused_labels` on rows.
-use crate::forming::clear;
-use crate::rows::LABEL;
-use crate::rows::kind_of;
-use crate::rows::row_at;
-use crate::spans::aimed_out;
-use crate::spans::note;
+use outline::forming::clear;
+use outline::rows::LABEL;
+use outline::rows::kind_of;
+use outline::rows::row_at;
+use outline::spans::aimed_out;
+use outline::spans::note;
 ghost use mathlib.Core.Path.{_≡_};
 ghost use Prim.Native.Nat.{_≤_, _<_};
 ghost use lib.ListN.{length, take};

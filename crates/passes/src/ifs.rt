@@ -1,22 +1,22 @@
 // `structure_ifs` on rows.
-use crate::forming::deep_in;
-use crate::forming::insert_row;
-use crate::forming::raise;
-use crate::forming::turn;
-use crate::rows::COND;
-use crate::rows::indent_of;
-use crate::rows::judge;
-use crate::rows::kind_of;
-use crate::rows::name_of;
-use crate::rows::row_at;
-use crate::spans::note;
-use crate::spans::reached;
 use crate::sweeps::Formed;
 use crate::sweeps::Passed;
+use outline::forming::deep_in;
+use outline::forming::insert_row;
+use outline::forming::raise;
+use outline::forming::turn;
+use outline::rows::COND;
+use outline::rows::indent_of;
+use outline::rows::judge;
+use outline::rows::kind_of;
+use outline::rows::name_of;
+use outline::rows::row_at;
+use outline::spans::note;
+use outline::spans::reached;
 ghost use mathlib.Core.Path.{_≡_};
 ghost use Prim.Native.Nat.{_+_, _-_, _<_};
 ghost use lib.ListN.{length};
-ghost use Rattle.passes.specs.Forming.{labelFrom, ifGoal, formedIf};
+ghost use Rattle.passes.specs.Regions.{labelFrom, ifGoal, formedIf};
 ghost use Rattle.passes.specs.Sweeps.{tried, ifTried, swept, sweepRows, ifRows};
 
 // The row of the label m at depth d - 1, from row i up to n; n where the scan ends without it.

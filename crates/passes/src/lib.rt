@@ -1,8 +1,5 @@
 // The structuring passes on rows of numbers: no text moves while regions are formed.
 pub mod dropping;
-pub mod forming;
 pub mod ifs;
 pub mod loops;
-pub mod rows;
-pub mod spans;
 pub mod sweeps;

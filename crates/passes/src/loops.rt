@@ -1,25 +1,25 @@
 // `structure_do_while` on rows.
-use crate::forming::deep_in;
-use crate::forming::raise;
-use crate::forming::turn;
-use crate::forming::up;
-use crate::rows::LABEL;
-use crate::rows::indent_of;
-use crate::rows::judge_back;
-use crate::rows::kind_of;
-use crate::rows::name_of;
-use crate::rows::row_at;
-use crate::spans::is_outside;
-use crate::spans::note;
-use crate::spans::reached;
 use crate::sweeps::Formed;
 use crate::sweeps::Passed;
+use outline::forming::deep_in;
+use outline::forming::raise;
+use outline::forming::turn;
+use outline::forming::up;
+use outline::rows::LABEL;
+use outline::rows::indent_of;
+use outline::rows::judge_back;
+use outline::rows::kind_of;
+use outline::rows::name_of;
+use outline::rows::row_at;
+use outline::spans::is_outside;
+use outline::spans::note;
+use outline::spans::reached;
 ghost use mathlib.Core.Path.{_≡_};
 ghost use mathlib.Core.Bool.{cond};
 ghost use Prim.Native.Nat.{_+_, _-_, _<_};
 ghost use lib.Dec.{eqb};
 ghost use lib.ListN.{length};
-ghost use Rattle.passes.specs.Forming.{backFrom, doGoal, formedDo};
+ghost use Rattle.passes.specs.Regions.{backFrom, doGoal, formedDo};
 ghost use Rattle.passes.specs.Sweeps.{tried, doTried, swept, sweepRows, keeps, doRows};
 
 // The back edge found last: row j where it is one, or that before.

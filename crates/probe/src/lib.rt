@@ -1,14 +1,14 @@
 // What a comparison with the Rust runs piece by piece: the writers, the tables and the structuring passes, exported.
 pub mod structuring;
 
+use digits::leaf::Wrote;
+use digits::numbers::label;
+use digits::numbers::num;
+use digits::numbers::outward;
+use digits::numbers::pointer;
+use digits::numbers::slot;
 use tables::fill;
-use text::leaf::Wrote;
 use text::names::global_name;
-use text::numbers::label;
-use text::numbers::num;
-use text::numbers::outward;
-use text::numbers::pointer;
-use text::numbers::slot;
 use text::registers::reg_name;
 ghost use mathlib.Core.Path.{_≡_};
 ghost use Rattle.definition.specs.Numbers.{num as numOf, slot as slotOf, label as labelOf, outward as outwardOf};

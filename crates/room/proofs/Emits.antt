@@ -12,14 +12,14 @@ use lib.Seq.{drop-drop}
 use Rattle.definition.specs.Numbers.{decimal}
 use Rattle.definition.specs.Tokens.{Token, tok}
 use Rattle.definition.proofs.Bools.{both-true, by-test}
-use Rattle.text.specs.declared.leaf.Wrote.{Wrote}
-use Rattle.text.specs.declared.leaf.Wrote.the-variants.{Bytes, NoRoom}
-use Rattle.text.specs.declared.numbers.Radix.the-variants.{Decimal}
-use Rattle.text.specs.Leaf.{Leaf}
-use Rattle.text.specs.Numeral.{numeral}
-use Rattle.text.proofs.Rest.{rest-is, rest-back, rest-length}
-use Rattle.text.proofs.Leaves.{leaf-none, leaf-bytes}
-use Rattle.text.proofs.Texts.{decimal-is}
+use Rattle.digits.specs.declared.leaf.Wrote.{Wrote}
+use Rattle.digits.specs.declared.leaf.Wrote.the-variants.{Bytes, NoRoom}
+use Rattle.digits.specs.declared.numbers.Radix.the-variants.{Decimal}
+use Rattle.digits.specs.Leaf.{Leaf}
+use Rattle.digits.specs.Numeral.{numeral}
+use Rattle.digits.proofs.Rest.{rest-is, rest-back, rest-length}
+use Rattle.digits.proofs.Leaves.{leaf-none, leaf-bytes}
+use Rattle.digits.proofs.Texts.{decimal-is}
 use Rattle.room.specs.declared.out.Out.{Out}
 use Rattle.room.specs.Room.{Room, roomOf, textMost, stopped, isFull, paste, isReady, fits, placed, emit}
 use Rattle.room.specs.Placing.{withToken, afterToken, endOf, Placeable}

@@ -6,9 +6,10 @@ use mathlib.Core.Option.{Option}
 use mathlib.Core.List.{List, []}
 use Prim.Native.Nat.{ℕ}
 use Rattle.definition.specs.Tokens.{Token}
-use Rattle.text.specs.declared.leaf.Wrote.{Wrote}
-use Rattle.text.specs.Leaf.{Leaf}
-use Rattle.text.proofs.Unique.{leaf, equation}
+use Rattle.digits.specs.declared.leaf.Wrote.{Wrote}
+use Rattle.digits.specs.Leaf.{Leaf}
+use Rattle.digits.proofs.Unique.{leaf}
+use Rattle.text.proofs.Unique.{equation}
 use Rattle.room.specs.declared.out.Out.{Out}
 use Rattle.room.specs.Room.{Room, Sheet, roomOf, stopped, isReady, emit}
 use Rattle.room.specs.Placing.{withToken, afterToken}

@@ -4,7 +4,7 @@ use crate::out::Out;
 use crate::place::ready;
 use crate::place::stop;
 use crate::place::token;
-use text::leaf::copy_part;
+use digits::leaf::copy_part;
 use text::names::global_name;
 use text::names::name_text;
 ghost use mathlib.Core.Path.{_≡_};

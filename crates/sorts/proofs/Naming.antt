@@ -19,7 +19,7 @@ use Rattle.definition.proofs.Bools.{by-test, by-cond}
 use Rattle.sheet.specs.Buffers.{startAt, endAt, textAt, tokensIn, firstOf, lastOf, lineIn}
 use Rattle.sheet.specs.Ranges.{least, between}
 use Rattle.sheet.proofs.Reading.{range-is}
-use Rattle.passes.specs.Rows.{lineAt}
+use Rattle.outline.specs.Rows.{lineAt}
 use Rattle.sorts.specs.Places.{firstPlace}
 use Rattle.sorts.specs.Sorted.{namedAt, numbered, labelNumber, linesIn}
 use Rattle.sorts.proofs.Ranges.{below-at, below-length}

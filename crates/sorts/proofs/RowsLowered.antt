@@ -21,10 +21,10 @@ use Rattle.definition.proofs.Plain.{FlatAs, Plain}
 use Rattle.sheet.specs.Buffers.{lineIn}
 use Rattle.sheet.specs.Ranges.{least}
 use Rattle.sheet.proofs.Reading.{least-left}
-use Rattle.passes.specs.Rows.{kindOf, indentOf, nameOf, originOf, lineAt}
-use Rattle.passes.specs.Tests.{at}
-use Rattle.passes.proofs.Coding.{Aims, Codes}
-use Rattle.passes.proofs.Lowering.{LowRow}
+use Rattle.outline.specs.Rows.{kindOf, indentOf, nameOf, originOf, lineAt}
+use Rattle.outline.specs.Tests.{at}
+use Rattle.coding.proofs.Coding.{Aims, Codes}
+use Rattle.coding.proofs.Lowering.{LowRow}
 use Rattle.sorts.specs.Places.{firstPlace}
 use Rattle.sorts.specs.Sorted.{namedAt, numbered, labelNumber, kindIn, nameIn, packed, rowOf, linesIn, sorted}
 use Rattle.sorts.proofs.Ranges.{below-length, below-at, below-is}

@@ -12,7 +12,7 @@ use Rattle.definition.specs.Passes.{named}
 use Rattle.definition.specs.Listing.{lineNumbers}
 use Rattle.sheet.specs.Buffers.{numberAt, lineIn}
 use Rattle.sheet.specs.Ranges.{least}
-use Rattle.passes.specs.Rows.{LABEL, COND, JUMP, lineAt}
+use Rattle.outline.specs.Rows.{LABEL, COND, JUMP, lineAt}
 use Rattle.sorts.specs.Places.{firstPlace}
 
 -- is line i the label t

@@ -15,8 +15,8 @@ use Rattle.room.proofs.Words.{words-length, rows-length}
 use Rattle.sheet.specs.Buffers.{numberAt, startAt, endAt, firstOf, lastOf}
 use Rattle.sheet.proofs.Reading.{start-first, start-later}
 use Rattle.sheet.proofs.Held.{held}
-use Rattle.negate.specs.Clip.{Rises}
-use Rattle.passes.specs.Rows.{lineAt}
+use Rattle.clips.specs.Clip.{Rises}
+use Rattle.outline.specs.Rows.{lineAt}
 use Rattle.finish.specs.Finishing.{countOf}
 use Rattle.structure.specs.Lowered.{Given}
 

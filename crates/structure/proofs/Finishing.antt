@@ -16,7 +16,7 @@ use Rattle.definition.specs.Passes.{closer}
 use Rattle.definition.proofs.Bools.{by-cond}
 use Rattle.definition.proofs.ListLaws.{Each, end, _▸_, each-append, each-only}
 use Rattle.room.proofs.Proper.{Kind8, Proper, line-proper}
-use Rattle.passes.specs.Rows.{IF-OPEN, CLOSE, DO-OPEN, WHILE-CLOSE, kindOf, originOf, toksOf, lineAt, lineOf, linesOf}
+use Rattle.outline.specs.Rows.{IF-OPEN, CLOSE, DO-OPEN, WHILE-CLOSE, kindOf, originOf, toksOf, lineAt, lineOf, linesOf}
 use Rattle.sorts.proofs.Once.{each-at}
 use Rattle.structure.proofs.Origins.{Below}
 

@@ -16,10 +16,11 @@ use Rattle.sheet.specs.Ranges.{least}
 use Rattle.sheet.proofs.Reading.{least-left}
 use Rattle.passes.specs.declared.sweeps.Passed.{Passed}
 use Rattle.passes.specs.declared.sweeps.Passed.the-variants.{Done, TooDeep}
-use Rattle.passes.specs.Rows.{kindOf, indentOf, originOf, lineAt}
-use Rattle.passes.specs.Tests.{at}
-use Rattle.passes.specs.Spans.{spansOf}
-use Rattle.passes.specs.Forming.{raised, turned, opened, whiled, headed, closeRow, changedIn, inserted, formedIf, formedDo, ifGoal, doGoal}
+use Rattle.outline.specs.Rows.{kindOf, indentOf, originOf, lineAt}
+use Rattle.outline.specs.Tests.{at}
+use Rattle.outline.specs.Spans.{spansOf}
+use Rattle.outline.specs.Forming.{raised, turned, changedIn, inserted}
+use Rattle.passes.specs.Regions.{opened, whiled, headed, closeRow, formedIf, formedDo, ifGoal, doGoal}
 use Rattle.passes.specs.Sweeps.{Tried, triedAt, ifTried, doTried, Swept, sweepRows, keeps, ifRows, doRows}
 use Rattle.passes.specs.Dropping.{keptRow, keptRows, dropRows}
 use Rattle.sorts.specs.Sorted.{kindIn, nameIn, packed, rowOf, linesIn, sorted}

@@ -6,10 +6,10 @@ use lib.ListN.{length, replicate}
 use Rattle.passes.specs.declared.sweeps.Formed.{Formed}
 use Rattle.passes.specs.declared.sweeps.Passed.{Passed}
 use Rattle.passes.specs.declared.sweeps.Passed.the-variants.{Done, TooDeep}
-use Rattle.passes.specs.Forming.{nought, changedIn}
+use Rattle.outline.specs.Forming.{nought, changedIn}
 use Rattle.passes.specs.Sweeps.{Swept, swept, ifRows, doRows}
 use Rattle.passes.specs.Dropping.{Gathered, gathered, dropRows}
-use Rattle.passes.proofs.Moves.{all-clear}
+use Rattle.outline.proofs.Moves.{all-clear}
 use Rattle.structure.specs.declared.answers.Passes.the-variants.{Refused}
 use Rattle.structure.specs.Runs.{ran, left, behindLoops, loopsRan, behindIfs, ifsRan, ranOf}
 

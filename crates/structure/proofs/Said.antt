@@ -10,7 +10,7 @@ use Rattle.passes.specs.declared.sweeps.Passed.{Passed}
 use Rattle.passes.specs.declared.sweeps.Passed.the-variants.{Done, TooDeep}
 use Rattle.passes.specs.Sweeps.{swept, ifRows, doRows}
 use Rattle.passes.specs.Dropping.{dropRows}
-use Rattle.passes.proofs.Structuring.{Finished, Structured}
+use Rattle.coding.proofs.Structuring.{Finished, Structured}
 use Rattle.structure.specs.declared.answers.Kept.{Kept}
 use Rattle.structure.specs.declared.answers.Passes.{Passes}
 use Rattle.structure.specs.declared.answers.Passes.the-variants.{Refused, Left}

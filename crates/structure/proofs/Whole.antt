@@ -23,11 +23,11 @@ use Rattle.room.proofs.Proper.{Proper}
 use Rattle.room.proofs.View.{written}
 use Rattle.sheet.specs.Buffers.{lineIn}
 use Rattle.sheet.proofs.Held.{held}
-use Rattle.passes.specs.Rows.{originOf, linesOf}
-use Rattle.passes.specs.Tests.{at}
-use Rattle.passes.proofs.Shapes.{map-length}
-use Rattle.passes.proofs.Structuring.{Finished, Structured}
-use Rattle.passes.proofs.Lowering.{LowRow, lowered}
+use Rattle.outline.specs.Rows.{originOf, linesOf}
+use Rattle.outline.specs.Tests.{at}
+use Rattle.coding.proofs.Shapes.{map-length}
+use Rattle.coding.proofs.Structuring.{Finished, Structured}
+use Rattle.coding.proofs.Lowering.{LowRow, lowered}
 use Rattle.sorts.specs.Sorted.{sorted, linesIn as linesRead}
 use Rattle.sorts.proofs.Ranges.{below-is}
 use Rattle.sorts.proofs.RowsLowered.{rows-lowered}

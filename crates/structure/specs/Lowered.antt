@@ -13,7 +13,7 @@ use Rattle.definition.proofs.Accepted.{Within}
 use Rattle.room.specs.Room.{textMost}
 use Rattle.room.proofs.Proper.{Proper}
 use Rattle.sheet.specs.Buffers.{firstOf}
-use Rattle.negate.specs.Clip.{Rises}
+use Rattle.clips.specs.Clip.{Rises}
 use Rattle.finish.specs.Finishing.{countOf, Lows}
 use Rattle.structure.specs.declared.answers.Structured.{Structured}
 use Rattle.structure.specs.declared.answers.Structured.the-variants.{TooDeep, Listed}

@@ -1,8 +1,8 @@
 // The three passes, one behind the other, on the two tables.
 use crate::answers::Kept;
 use crate::answers::Passes;
+use outline::forming::clear;
 use passes::dropping::drop_unused_labels;
-use passes::forming::clear;
 use passes::ifs::structure_ifs;
 use passes::loops::structure_do_while;
 use passes::sweeps::Passed;

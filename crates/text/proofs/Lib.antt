@@ -1,8 +1,4 @@
-pub mod Rest
-pub mod Leaves
-pub mod Copies
-pub mod Digits
 pub mod Lookups
 pub mod Tables
-pub mod Texts
+pub mod Prefixes
 pub mod Unique

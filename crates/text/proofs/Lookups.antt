@@ -168,3 +168,7 @@ module _ (f : List ℕ) (t c n : ℕ) (r : Found) (look : r ≡ found (nameIndex
 pub name-part : (f : List ℕ) (t i a n : ℕ) → a ≡ nameWord f i 2 → n ≡ nameWord f i 3 → part f (offset f t + a) n ≡ nameText f t i
 unfolding nameText
 name-part f t i a n p q = rw (p, q)
+
+-- the same place, named otherwise
+pub part-at : (f : List ℕ) (a b n : ℕ) → a ≡ b → part f a n ≡ part f b n
+part-at f a b n e = rw e

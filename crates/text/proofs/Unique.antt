@@ -1,13 +1,6 @@
--- The one contract of the writers determines answer and buffer, so no second result meets it. The other functions' contracts are
+-- The writers have the one contract of writers, which no second result meets (`leaf` in digits). The other functions' contracts are
 -- equations for the answer.
 use mathlib.Core.Path.{_≡_, sym, _∙_}
-use mathlib.Core.List.{List}
-use Prim.Native.Nat.{ℕ}
-use Rattle.text.specs.declared.leaf.Wrote.{Wrote}
-use Rattle.text.specs.Leaf.{Leaf}
-
-pub leaf : (t d : List ℕ) (r s : Wrote) (e e′ : List ℕ) → Leaf t d r e → Leaf t d s e′ → (r ≡ s) × (e ≡ e′)
-leaf t d r s e e′ l k = (l .says ∙ sym (k .says), l .left ∙ sym (k .left))
 
 pub equation : {A : Type 0} (x r s : A) → r ≡ x → s ≡ x → r ≡ s
 equation x r s p q = p ∙ sym q

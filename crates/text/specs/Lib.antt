@@ -1,3 +1,1 @@
-pub mod Leaf
-pub mod Numeral
 pub mod Supplied

@@ -1,6 +1,3 @@
-// The writers: leaves of printing. Each is lent only the unwritten rest of the text, a part that begins at its current end,
-// and answers how much it wrote or that there is no room, and then it has touched nothing.
-pub mod leaf;
+// The writers of names: those that the file supplies, those of globals and those of registers.
 pub mod names;
-pub mod numbers;
 pub mod registers;

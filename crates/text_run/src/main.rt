@@ -1,13 +1,13 @@
 // Document 01's examples of numbers, slots and four-byte loads, written by the writers, one a line.
+use digits::leaf::Wrote;
+use digits::leaf::copy;
+use digits::numbers::HALF;
+use digits::numbers::num;
+use digits::numbers::pointer;
+use digits::numbers::slot;
 use libc::STDOUT_FILENO;
-use text::leaf::Wrote;
-use text::leaf::copy;
 use text::names::global_name;
 use text::names::is_global;
-use text::numbers::HALF;
-use text::numbers::num;
-use text::numbers::pointer;
-use text::numbers::slot;
 
 fn first(n: usize, line: &[u8]) {
     if n <= line.len() {

@@ -8,8 +8,8 @@ use Rattle.finish.proofs.kinds.put_row.Reads as put-row-reads
 use Rattle.finish.proofs.rows.count_of.Reads as count-of-reads
 use Rattle.finish.proofs.rows.origin_of.Reads as origin-of-reads
 use Rattle.finish.proofs.rows.row_address.Reads as row-address-reads
-use Rattle.passes.proofs.rows.indent_of.Reads as indent-of-reads
-use Rattle.passes.proofs.rows.kind_of.Reads as kind-of-reads
+use Rattle.outline.proofs.rows.indent_of.Reads as indent-of-reads
+use Rattle.outline.proofs.rows.kind_of.Reads as kind-of-reads
 use Rattle.room.proofs.line.end_line.Reads as end-line-reads
 use Rattle.sheet.proofs.lines.first_of.Reads as first-of-reads
 

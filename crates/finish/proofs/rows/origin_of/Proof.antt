@@ -1,5 +1,5 @@
 use mathlib.Core.Path.{refl}
-use Rattle.passes.specs.Rows.{originOf}
+use Rattle.outline.specs.Rows.{originOf}
 use Rattle.finish.proofs.rows.origin_of.Statement.{statement}
 use Rattle.finish.proofs.rows.origin_of.Tie as tie
 use Rattle.finish.proofs.rows.origin_of.Reads as reads

@@ -6,7 +6,7 @@ use Rattle.finish.proofs.rows.row_address.Reads as reads
 use Rattle.finish.proofs.rows.row_address.Lts as lts
 use Rattle.finish.proofs.rows.address_at.Reads as address-at-reads
 use Rattle.finish.proofs.rows.origin_of.Reads as origin-of-reads
-use Rattle.passes.proofs.rows.kind_of.Reads as kind-of-reads
+use Rattle.outline.proofs.rows.kind_of.Reads as kind-of-reads
 
 kind-of-requires : tie.Need-kind-of-requires
 kind-of-requires c κs = search needs

@@ -1,5 +1,5 @@
 use Rattle.room.proofs.Laws.{next, more, done, merged}
-use Rattle.negate.proofs.Emits.{pieces-are}
+use Rattle.clips.proofs.Emits.{pieces-are}
 use Rattle.definition.specs.Negate.{negate, openTokens}
 use mathlib.Core.Path.{sym, ap, _∙_}
 use borrow.Author.Needs.{needs}
@@ -7,7 +7,7 @@ use Rattle.negate.proofs.heads.put_open.Statement.{statement}
 use Rattle.negate.proofs.heads.put_open.Tie as tie
 use Rattle.negate.proofs.heads.put_open.Reads as reads
 use Rattle.negate.proofs.heads.put_open.Lts as lts
-use Rattle.negate.proofs.clip.condition.Reads as condition-reads
+use Rattle.clips.proofs.clip.condition.Reads as condition-reads
 use Rattle.negate.proofs.negation.put_negated.Reads as put-negated-reads
 use Rattle.room.proofs.put.put.Reads as put-reads
 

@@ -5,8 +5,8 @@ use Prim.Native.Nat.{_-_, _≤_}
 use lib.ListN.{length}
 use Rattle.room.specs.Room.{roomOf, emitAll, seen}
 use Rattle.negate.specs.Flipping.{flipped}
-use Rattle.negate.specs.Clip.{clipAt, texts}
-use Rattle.negate.proofs.Emits.{texts-start, texts-turn, texts-end}
+use Rattle.clips.specs.Clip.{clipAt, texts}
+use Rattle.clips.proofs.Emits.{texts-start, texts-turn, texts-end}
 use Rattle.negate.proofs.negation.put_flipped.Statement.{statement}
 use Rattle.negate.proofs.negation.put_flipped.Tie as tie
 use Rattle.negate.proofs.negation.put_flipped.Reads as reads

@@ -1,5 +1,5 @@
 use Rattle.passes.proofs.Goals.{label-none, label-found, label-ended, label-on}
-use Rattle.passes.specs.Forming.{labelFrom}
+use Rattle.passes.specs.Regions.{labelFrom}
 use mathlib.Core.Path.{_≡_, refl, sym, _∙_}
 use Prim.Native.Nat.{_-_}
 use borrow.Author.Needs.{needs}
@@ -7,8 +7,8 @@ use Rattle.passes.proofs.ifs.find_label.Statement.{statement}
 use Rattle.passes.proofs.ifs.find_label.Tie as tie
 use Rattle.passes.proofs.ifs.find_label.Reads as reads
 use Rattle.passes.proofs.ifs.find_label.Lts as lts
-use Rattle.passes.proofs.rows.judge.Reads as judge-reads
-use Rattle.passes.proofs.rows.row_at.Reads as row-at-reads
+use Rattle.outline.proofs.rows.judge.Reads as judge-reads
+use Rattle.outline.proofs.rows.row_at.Reads as row-at-reads
 
 abbrev Inv-loop : tie.InvT-loop
 Inv-loop rows n i m d j₀ j = labelFrom n m d rows i (n - i) ≡ labelFrom n m d rows j (n - j)

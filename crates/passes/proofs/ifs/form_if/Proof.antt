@@ -1,4 +1,5 @@
-use Rattle.passes.proofs.Moves.{indent-small, form-if}
+use Rattle.outline.proofs.Moves.{indent-small}
+use Rattle.passes.proofs.Forms.{form-if}
 use lib.ListN.{length-set}
 use mathlib.Core.Path.{refl, _∙_}
 use native.Mathlib.Omega.{arith}
@@ -7,11 +8,11 @@ use Rattle.passes.proofs.ifs.form_if.Statement.{statement}
 use Rattle.passes.proofs.ifs.form_if.Tie as tie
 use Rattle.passes.proofs.ifs.form_if.Reads as reads
 use Rattle.passes.proofs.ifs.form_if.Lts as lts
-use Rattle.passes.proofs.forming.insert_row.Reads as insert-row-reads
-use Rattle.passes.proofs.forming.raise.Reads as raise-reads
-use Rattle.passes.proofs.forming.turn.Reads as turn-reads
-use Rattle.passes.proofs.rows.indent_of.Reads as indent-of-reads
-use Rattle.passes.proofs.rows.row_at.Reads as row-at-reads
+use Rattle.outline.proofs.forming.insert_row.Reads as insert-row-reads
+use Rattle.outline.proofs.forming.raise.Reads as raise-reads
+use Rattle.outline.proofs.forming.turn.Reads as turn-reads
+use Rattle.outline.proofs.rows.indent_of.Reads as indent-of-reads
+use Rattle.outline.proofs.rows.row_at.Reads as row-at-reads
 
 row-at-requires : tie.Need-row-at-requires
 row-at-requires c κs = search needs

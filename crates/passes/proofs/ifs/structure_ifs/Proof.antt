@@ -5,7 +5,7 @@ use Rattle.passes.proofs.ifs.structure_ifs.Tie as tie
 use Rattle.passes.proofs.ifs.structure_ifs.Reads as reads
 use Rattle.passes.proofs.ifs.structure_ifs.Lts as lts
 use Rattle.passes.proofs.ifs.sweep_ifs.Reads as sweep-ifs-reads
-use Rattle.passes.proofs.spans.note.Reads as note-reads
+use Rattle.outline.proofs.spans.note.Reads as note-reads
 
 note-requires : tie.Need-note-requires
 note-requires c κs = search needs

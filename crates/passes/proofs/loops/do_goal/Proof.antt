@@ -1,5 +1,5 @@
 use Rattle.passes.proofs.Goals.{do-no, do-none, do-aimed, do-reached, do-yes, back-below}
-use Rattle.passes.proofs.Moves.{indent-small}
+use Rattle.outline.proofs.Moves.{indent-small}
 use native.Mathlib.Omega.{arith}
 use borrow.Author.Needs.{needs}
 use Rattle.passes.proofs.loops.do_goal.Statement.{statement}
@@ -7,12 +7,12 @@ use Rattle.passes.proofs.loops.do_goal.Tie as tie
 use Rattle.passes.proofs.loops.do_goal.Reads as reads
 use Rattle.passes.proofs.loops.do_goal.Lts as lts
 use Rattle.passes.proofs.loops.last_back.Reads as last-back-reads
-use Rattle.passes.proofs.rows.indent_of.Reads as indent-of-reads
-use Rattle.passes.proofs.rows.kind_of.Reads as kind-of-reads
-use Rattle.passes.proofs.rows.name_of.Reads as name-of-reads
-use Rattle.passes.proofs.rows.row_at.Reads as row-at-reads
-use Rattle.passes.proofs.spans.is_outside.Reads as is-outside-reads
-use Rattle.passes.proofs.spans.reached.Reads as reached-reads
+use Rattle.outline.proofs.rows.indent_of.Reads as indent-of-reads
+use Rattle.outline.proofs.rows.kind_of.Reads as kind-of-reads
+use Rattle.outline.proofs.rows.name_of.Reads as name-of-reads
+use Rattle.outline.proofs.rows.row_at.Reads as row-at-reads
+use Rattle.outline.proofs.spans.is_outside.Reads as is-outside-reads
+use Rattle.outline.proofs.spans.reached.Reads as reached-reads
 
 row-at-requires : tie.Need-row-at-requires
 row-at-requires c κs = search needs

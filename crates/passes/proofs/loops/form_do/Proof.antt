@@ -1,4 +1,4 @@
-use Rattle.passes.proofs.Moves.{form-do}
+use Rattle.passes.proofs.Forms.{form-do}
 use lib.ListN.{length-set}
 use mathlib.Core.Path.{_∙_}
 use native.Mathlib.Omega.{arith}
@@ -7,10 +7,10 @@ use Rattle.passes.proofs.loops.form_do.Statement.{statement}
 use Rattle.passes.proofs.loops.form_do.Tie as tie
 use Rattle.passes.proofs.loops.form_do.Reads as reads
 use Rattle.passes.proofs.loops.form_do.Lts as lts
-use Rattle.passes.proofs.forming.raise.Reads as raise-reads
-use Rattle.passes.proofs.forming.turn.Reads as turn-reads
-use Rattle.passes.proofs.forming.up.Reads as up-reads
-use Rattle.passes.proofs.rows.row_at.Reads as row-at-reads
+use Rattle.outline.proofs.forming.raise.Reads as raise-reads
+use Rattle.outline.proofs.forming.turn.Reads as turn-reads
+use Rattle.outline.proofs.forming.up.Reads as up-reads
+use Rattle.outline.proofs.rows.row_at.Reads as row-at-reads
 
 row-at-requires : tie.Need-row-at-requires
 row-at-requires c κs = search needs

@@ -1,5 +1,5 @@
 use Rattle.passes.proofs.Goals.{unlessLater, back-start, back-none, back-ended, back-on}
-use Rattle.passes.specs.Forming.{backFrom}
+use Rattle.passes.specs.Regions.{backFrom}
 use mathlib.Core.Path.{_≡_, sym, _∙_}
 use Prim.Native.Nat.{_-_}
 use borrow.Author.Needs.{needs}
@@ -8,8 +8,8 @@ use Rattle.passes.proofs.loops.last_back.Tie as tie
 use Rattle.passes.proofs.loops.last_back.Reads as reads
 use Rattle.passes.proofs.loops.last_back.Lts as lts
 use Rattle.passes.proofs.loops.later.Reads as later-reads
-use Rattle.passes.proofs.rows.judge_back.Reads as judge-back-reads
-use Rattle.passes.proofs.rows.row_at.Reads as row-at-reads
+use Rattle.outline.proofs.rows.judge_back.Reads as judge-back-reads
+use Rattle.outline.proofs.rows.row_at.Reads as row-at-reads
 
 abbrev Inv-loop : tie.InvT-loop
 Inv-loop rows n i m d last₀ j₀ last j = backFrom n m d rows i (n - i) ≡ unlessLater n last (backFrom n m d rows j (n - j))

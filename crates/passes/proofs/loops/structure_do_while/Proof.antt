@@ -5,7 +5,7 @@ use Rattle.passes.proofs.loops.structure_do_while.Tie as tie
 use Rattle.passes.proofs.loops.structure_do_while.Reads as reads
 use Rattle.passes.proofs.loops.structure_do_while.Lts as lts
 use Rattle.passes.proofs.loops.sweep_do.Reads as sweep-do-reads
-use Rattle.passes.proofs.spans.note.Reads as note-reads
+use Rattle.outline.proofs.spans.note.Reads as note-reads
 
 note-requires : tie.Need-note-requires
 note-requires c κs = search needs

@@ -7,7 +7,7 @@ use Rattle.room.proofs.from_file.put_part.Lts as lts
 use Rattle.room.proofs.place.ready.Reads as ready-reads
 use Rattle.room.proofs.place.stop.Reads as stop-reads
 use Rattle.room.proofs.place.token.Reads as token-reads
-use Rattle.text.proofs.leaf.copy_part.Reads as copy-part-reads
+use Rattle.digits.proofs.leaf.copy_part.Reads as copy-part-reads
 
 ready-requires : tie.Need-ready-requires
 ready-requires c κs = search needs

@@ -1,7 +1,7 @@
 use mathlib.Core.Path.{refl}
 use native.Mathlib.Omega.{arith}
 use Rattle.definition.specs.Words.{part}
-use Rattle.text.proofs.Leaves.{no-front, no-end, end-count, both-fit}
+use Rattle.digits.proofs.Leaves.{no-front, no-end, end-count, both-fit}
 use Prim.Native.Nat.{_+_, _≤_}
 use lib.ListN.{length}
 use borrow.Author.Needs.{needs}
@@ -9,8 +9,8 @@ use Rattle.room.proofs.fronted.part_behind.Statement.{statement}
 use Rattle.room.proofs.fronted.part_behind.Tie as tie
 use Rattle.room.proofs.fronted.part_behind.Reads as reads
 use Rattle.room.proofs.fronted.part_behind.Lts as lts
-use Rattle.text.proofs.leaf.copy.Reads as copy-reads
-use Rattle.text.proofs.leaf.copy_part.Reads as copy-part-reads
+use Rattle.digits.proofs.leaf.copy.Reads as copy-reads
+use Rattle.digits.proofs.leaf.copy_part.Reads as copy-part-reads
 
 returns : tie.Need-returns
 returns c = let a = c .before .before .before .before .args in no-front (a .front .now) (part (a .f .now) (a .at) (a .n)) _ _ refl (c .if1 .taken)

@@ -1,5 +1,5 @@
 use Rattle.room.proofs.Emits.{counted-is}
-use Rattle.text.proofs.Leaves.{leaf-as}
+use Rattle.digits.proofs.Leaves.{leaf-as}
 use Rattle.room.proofs.Emits.{emit-not, ready-rest, placeable, leaf-emit}
 use borrow.Author.Needs.{needs}
 use Rattle.room.proofs.put.put_counted.Statement.{statement}
@@ -9,7 +9,7 @@ use Rattle.room.proofs.put.put_counted.Lts as lts
 use Rattle.room.proofs.place.ready.Reads as ready-reads
 use Rattle.room.proofs.place.stop.Reads as stop-reads
 use Rattle.room.proofs.place.token.Reads as token-reads
-use Rattle.text.proofs.numbers.behind.Reads as behind-reads
+use Rattle.digits.proofs.numbers.behind.Reads as behind-reads
 
 ready-requires : tie.Need-ready-requires
 ready-requires c κs = search needs

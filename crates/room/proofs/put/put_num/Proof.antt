@@ -7,7 +7,7 @@ use Rattle.room.proofs.put.put_num.Lts as lts
 use Rattle.room.proofs.place.ready.Reads as ready-reads
 use Rattle.room.proofs.place.stop.Reads as stop-reads
 use Rattle.room.proofs.place.token.Reads as token-reads
-use Rattle.text.proofs.numbers.num.Reads as num-reads
+use Rattle.digits.proofs.numbers.num.Reads as num-reads
 
 ready-requires : tie.Need-ready-requires
 ready-requires c κs = search needs

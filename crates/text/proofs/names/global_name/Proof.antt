@@ -1,5 +1,5 @@
 use Rattle.text.proofs.Lookups.{global-unnamed, global-named}
-use Rattle.text.proofs.Leaves.{leaf-as}
+use Rattle.digits.proofs.Leaves.{leaf-as}
 use borrow.Author.Needs.{needs}
 use Rattle.text.proofs.names.global_name.Statement.{statement}
 use Rattle.text.proofs.names.global_name.Tie as tie

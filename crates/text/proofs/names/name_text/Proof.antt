@@ -1,5 +1,5 @@
 use Rattle.text.proofs.Lookups.{name-part}
-use Rattle.text.proofs.Leaves.{leaf-as}
+use Rattle.digits.proofs.Leaves.{leaf-as}
 use borrow.Author.Needs.{needs}
 use Rattle.text.proofs.names.name_text.Statement.{statement}
 use Rattle.text.proofs.names.name_text.Tie as tie

@@ -1,5 +1,5 @@
 use Rattle.text.proofs.Tables.{name-32, name-8, name-9, name-other}
-use Rattle.text.proofs.Leaves.{leaf-as}
+use Rattle.digits.proofs.Leaves.{leaf-as}
 use native.Mathlib.Omega.{arith}
 use mathlib.Core.Logic.{⊎-elim}
 use borrow.Author.Needs.{needs}
@@ -7,7 +7,7 @@ use Rattle.text.proofs.registers.Register.name.Statement.{statement}
 use Rattle.text.proofs.registers.Register.name.Tie as tie
 use Rattle.text.proofs.registers.Register.name.Reads as reads
 use Rattle.text.proofs.registers.Register.name.Lts as lts
-use Rattle.text.proofs.leaf.copy_part.Reads as copy-part-reads
+use Rattle.digits.proofs.leaf.copy_part.Reads as copy-part-reads
 
 cast-at : tie.Need-cast-at
 cast-at c = search needs

@@ -1,0 +1,48 @@
+use Rattle.clips.proofs.Emits.{put-token}
+use borrow.Author.Needs.{needs}
+use Rattle.clips.proofs.copies.put_at.Statement.{statement}
+use Rattle.clips.proofs.copies.put_at.Tie as tie
+use Rattle.clips.proofs.copies.put_at.Reads as reads
+use Rattle.clips.proofs.copies.put_at.Lts as lts
+use Rattle.clips.proofs.copies.put_between.Reads as put-between-reads
+use Rattle.sheet.proofs.tokens.end_at.Reads as end-at-reads
+use Rattle.sheet.proofs.tokens.kind_at.Reads as kind-at-reads
+use Rattle.sheet.proofs.tokens.place.Reads as place-reads
+use Rattle.sheet.proofs.tokens.start_at.Reads as start-at-reads
+
+place-requires : tie.Need-place-requires
+place-requires c κs = search needs
+
+kind-at-requires : tie.Need-kind-at-requires
+kind-at-requires c κs = search needs
+
+start-at-requires : tie.Need-start-at-requires
+start-at-requires c κs = search needs
+
+end-at-requires : tie.Need-end-at-requires
+end-at-requires c κs = search needs
+
+put-between-requires : tie.Need-put-between-requires
+put-between-requires c κs = search needs
+
+same-length : tie.Need-same-length
+same-length c = search needs
+
+same-length-2 : tie.Need-same-length-2
+same-length-2 c = search needs
+
+returns : tie.Need-returns
+returns c = put-token _ _ _ _ _ _ _ _ _ (c .before .before .before .before .before .before .before .before .before .before .place .ensures) (c .before .before .before .before .before .before .before .before .before .kind-at .ensures) (c .before .before .before .before .before .before .before .before .start-at .ensures) (c .before .before .before .before .before .before .before .end-at .ensures) (c .before .before .before .before .put-between .ensures)
+
+pub put-at-spec : {M : Type 1} → statement M
+put-at-spec =
+    tie.close
+    (tie.spec
+    place-requires
+    kind-at-requires
+    start-at-requires
+    end-at-requires
+    put-between-requires
+    same-length
+    same-length-2
+    returns)

@@ -1,0 +1,134 @@
+-- What each return of a test on one row comes to, from what the code learned of the row's kind, indent and name.
+use mathlib.Core.Path.{_≡_, sym, ap, _∙_}
+use mathlib.Core.Bool.{Bool, true, false, cond, _||_, and-false}
+use Prim.Native.Nat.{ℕ, suc, _+_, _≤_, _<_}
+use native.Mathlib.Omega.{arith}
+use borrow.Author.Tests.{eq-eqb, ne-eqb, lt-ltb, le-ltb}
+use lib.Dec.{eqb, leb}
+use Rattle.outline.specs.Rows.{kindOf, indentOf, nameOf}
+use Rattle.outline.specs.Tests.{isLabel, isCond, isGoto, labels, backs, stops, verdict, backVerdict, tooDeep}
+
+module _ (w : ℕ) where
+  pub label-is : kindOf w ≡ 1 → isLabel w ≡ true
+  unfolding isLabel
+  label-is = eq-eqb (kindOf w) 1
+
+  pub label-not : (kindOf w ≡ 1 → ⊥) → isLabel w ≡ false
+  unfolding isLabel
+  label-not = ne-eqb (kindOf w) 1
+
+  pub cond-is : kindOf w ≡ 2 → isCond w ≡ true
+  unfolding isCond
+  cond-is = eq-eqb (kindOf w) 2
+
+  pub cond-not : (kindOf w ≡ 2 → ⊥) → isCond w ≡ false
+  unfolding isCond
+  cond-not = ne-eqb (kindOf w) 2
+
+  pub goto-cond : kindOf w ≡ 2 → true ≡ isGoto w
+  unfolding isGoto
+  goto-cond e = rw (eq-eqb (kindOf w) 2 e)
+
+  pub goto-jump : (b : Bool) (k : ℕ) → k ≡ kindOf w → (k ≡ 2 → ⊥) → b ≡ eqb k 3 → b ≡ isGoto w
+  unfolding isGoto
+  goto-jump b k e n h = h ∙ ap (λ (q : ℕ). eqb q 3) e ∙ sym (ap (λ (q : Bool). q || eqb (kindOf w) 3) (ne-eqb (kindOf w) 2 (λ z. n (e ∙ z))))
+
+  pub deep-label : (b : Bool) (k x : ℕ) → k ≡ kindOf w → x ≡ indentOf w → k ≡ 1 → b ≡ leb 254 x → b ≡ tooDeep w
+  unfolding tooDeep
+  deep-label b k x e h l q = q ∙ ap (leb 254) h ∙ sym (ap (λ (z : Bool). cond z (leb 254 (indentOf w)) (leb 255 (indentOf w))) (label-is (sym e ∙ l)))
+
+  pub deep-other : (b : Bool) (k x : ℕ) → k ≡ kindOf w → x ≡ indentOf w → (k ≡ 1 → ⊥) → b ≡ leb 255 x → b ≡ tooDeep w
+  unfolding tooDeep
+  deep-other b k x e h l q = q ∙ ap (leb 255) h ∙ sym (ap (λ (z : Bool). cond z (leb 254 (indentOf w)) (leb 255 (indentOf w))) (label-not (λ z. l (e ∙ z))))
+
+  module _ (m d x : ℕ) (ex : x ≡ indentOf w) where
+    -- at depth d or deeper
+    pub judge-deep : d ≤ x → 0 ≡ verdict m d w
+    unfolding verdict stops
+    judge-deep h =
+        let a : d ≤ indentOf w = omega arith in
+        let n : suc (indentOf w) ≡ d → ⊥ = λ e. omega arith in
+        simp (ne-eqb (suc (indentOf w)) d n, le-ltb (indentOf w) d a, and-false)
+
+    -- further out than a label may stand
+    pub judge-far : x < d → (x + 1 ≡ d → ⊥) → 2 ≡ verdict m d w
+    unfolding verdict stops
+    judge-far h n =
+        let a : indentOf w < d = omega arith in
+        let q : suc (indentOf w) ≡ d → ⊥ = λ e. n (omega arith) in
+        simp (ne-eqb (suc (indentOf w)) d q, lt-ltb (indentOf w) d a, and-false)
+
+    module _ (e : x + 1 ≡ d) (k : ℕ) (ek : k ≡ kindOf w) where
+      pub judge-other : (k ≡ 1 → ⊥) → 2 ≡ verdict m d w
+      unfolding verdict stops labels
+      judge-other n =
+          let a : indentOf w < d = omega arith in
+          simp (label-not (λ z. n (ek ∙ z)), lt-ltb (indentOf w) d a)
+
+      module _ (l : k ≡ 1) (v : ℕ) (ev : v ≡ nameOf w) where
+        pub judge-hit : v ≡ m → 1 ≡ verdict m d w
+        unfolding verdict labels
+        judge-hit h =
+            let q : suc (indentOf w) ≡ d = omega arith in
+            simp (label-is (sym ek ∙ l), eq-eqb (nameOf w) m (sym ev ∙ h), eq-eqb (suc (indentOf w)) d q)
+
+        pub judge-label : (v ≡ m → ⊥) → 0 ≡ verdict m d w
+        unfolding verdict stops labels
+        judge-label h =
+            let a : indentOf w < d = omega arith in
+            let q : suc (indentOf w) ≡ d = omega arith in
+            simp (label-is (sym ek ∙ l), ne-eqb (nameOf w) m (λ z. h (ev ∙ z)), eq-eqb (suc (indentOf w)) d q, lt-ltb (indentOf w) d a)
+
+  -- ---- the search for back edges
+  module _ (m d x : ℕ) (ex : x ≡ indentOf w) where
+    module _ (h : x < d) where
+      pub back-far : (x + 1 ≡ d → ⊥) → 2 ≡ backVerdict m d w
+      unfolding backVerdict stops
+      back-far n =
+          let a : indentOf w < d = omega arith in
+          let q : suc (indentOf w) ≡ d → ⊥ = λ e. n (omega arith) in
+          simp (ne-eqb (suc (indentOf w)) d q, lt-ltb (indentOf w) d a, and-false)
+
+      module _ (k : ℕ) (ek : k ≡ kindOf w) where
+        pub back-low : (k ≡ 1 → ⊥) → 2 ≡ backVerdict m d w
+        unfolding backVerdict stops
+        back-low n =
+            let a : indentOf w < d = omega arith in
+            simp (label-not (λ z. n (ek ∙ z)), lt-ltb (indentOf w) d a)
+
+        pub back-label : x + 1 ≡ d → k ≡ 1 → 0 ≡ backVerdict m d w
+        unfolding backVerdict stops
+        back-label e l =
+            let a : indentOf w < d = omega arith in
+            let q : suc (indentOf w) ≡ d = omega arith in
+            let n : indentOf w ≡ d → ⊥ = λ z. omega arith in
+            simp (label-is (sym ek ∙ l), eq-eqb (suc (indentOf w)) d q, lt-ltb (indentOf w) d a, ne-eqb (indentOf w) d n)
+
+    module _ (h : d ≤ x) where
+      pub back-deep : (x ≡ d → ⊥) → 0 ≡ backVerdict m d w
+      unfolding backVerdict stops
+      back-deep n =
+          let a : d ≤ indentOf w = omega arith in
+          let q : indentOf w ≡ d → ⊥ = λ z. n (omega arith) in
+          simp (le-ltb (indentOf w) d a, ne-eqb (indentOf w) d q)
+
+      module _ (k : ℕ) (ek : k ≡ kindOf w) where
+        pub back-other : (k ≡ 2 → ⊥) → 0 ≡ backVerdict m d w
+        unfolding backVerdict stops backs
+        back-other n =
+            let a : d ≤ indentOf w = omega arith in
+            simp (le-ltb (indentOf w) d a, cond-not (λ z. n (ek ∙ z)), and-false)
+
+        module _ (l : k ≡ 2) (v : ℕ) (ev : v ≡ nameOf w) where
+          pub back-hit : x ≡ d → v ≡ m → 1 ≡ backVerdict m d w
+          unfolding backVerdict stops backs
+          back-hit e q =
+              let a : d ≤ indentOf w = omega arith in
+              let i : indentOf w ≡ d = omega arith in
+              simp (le-ltb (indentOf w) d a, cond-is (sym ek ∙ l), eq-eqb (indentOf w) d i, eq-eqb (nameOf w) m (sym ev ∙ q))
+
+          pub back-name : (v ≡ m → ⊥) → 0 ≡ backVerdict m d w
+          unfolding backVerdict stops backs
+          back-name q =
+              let a : d ≤ indentOf w = omega arith in
+              simp (le-ltb (indentOf w) d a, cond-is (sym ek ∙ l), ne-eqb (nameOf w) m (λ z. q (ev ∙ z)), and-false)

@@ -1,0 +1,13 @@
+use Rattle.outline.specs.Rows.{indentOf}
+use mathlib.Core.Path.{refl}
+use Rattle.outline.proofs.rows.indent_of.Statement.{statement}
+use Rattle.outline.proofs.rows.indent_of.Tie as tie
+use Rattle.outline.proofs.rows.indent_of.Reads as reads
+use Rattle.outline.proofs.rows.indent_of.Lts as lts
+
+returns : tie.Need-returns
+unfolding indentOf
+returns c = refl
+
+pub indent-of-spec : {M : Type 1} → statement M
+indent-of-spec = tie.close (tie.spec returns)

@@ -1,0 +1,13 @@
+use Rattle.outline.specs.Rows.{kindOf}
+use mathlib.Core.Path.{refl}
+use Rattle.outline.proofs.rows.kind_of.Statement.{statement}
+use Rattle.outline.proofs.rows.kind_of.Tie as tie
+use Rattle.outline.proofs.rows.kind_of.Reads as reads
+use Rattle.outline.proofs.rows.kind_of.Lts as lts
+
+returns : tie.Need-returns
+unfolding kindOf
+returns c = refl
+
+pub kind-of-spec : {M : Type 1} → statement M
+kind-of-spec = tie.close (tie.spec returns)
