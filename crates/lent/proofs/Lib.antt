@@ -1,0 +1,3 @@
+mod Answering
+mod Refusing
+pub mod Unique

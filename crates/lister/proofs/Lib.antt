@@ -1,0 +1,6 @@
+mod First
+mod Structuring
+mod Whole
+mod ReadBack
+pub mod Unique
+pub mod Demands

@@ -1,0 +1,176 @@
+-- The printer's calls one after the other: lowering into zeros, structuring of what it left, and the scratch emptied again. Where lowering refuses
+-- nothing, the file passes 4, 5, 6 and 8, so that structuring is given what it asks for.
+use mathlib.Core.Path.{_≡_, refl, sym, subst, ap, _∙_}
+use mathlib.Core.Bool.{Bool, true, false, cond, _&&_}
+use mathlib.Core.List.{List}
+use Prim.Native.Nat.{ℕ, zero, suc}
+use native.Mathlib.Omega.{arith}
+use lib.Dec.{eqb, eqb·suc-zero}
+use lib.ListN.{length, replicate, length-replicate, getD}
+use mir.Syntax.{w8}
+use mir.Val.{Fits}
+use borrow.Author.Tests.{eqb-true}
+use Rattle.definition.specs.Edition.{edition1}
+use Rattle.definition.specs.Read.{read}
+use Rattle.definition.specs.Offsets.{offsets}
+use Rattle.definition.specs.Listing.{Lent, structure, fits, refusal, resultOf, result, list}
+use Rattle.definition.proofs.Bools.{both-true}
+use Rattle.definition.proofs.LoweredRead.{edition1-text}
+use Rattle.tables.specs.Tables.{Tables, tablesOf, zeros, cleared, longValues, allLong, long}
+use Rattle.structure.specs.Lowered.{Given, Lends, lent}
+use Rattle.structure.proofs.EveryFile.{given-file, room-file}
+use Rattle.lent.specs.declared.answer.Answer.{Answer}
+use Rattle.lent.specs.Lengths.{lentOf, lowFits}
+use Rattle.lowered.specs.declared.Lowered.{Lowered}
+use Rattle.lowered.specs.Lowered.{Low, lowOf, lowIn, linesOf, firstOf, LoweredIn}
+use Rattle.lister.specs.Lists.{ready, Lists}
+use Rattle.lister.specs.Structured.{Lowers, Answers}
+use Rattle.lister.proofs.First.{Passes, by-first, none-refuses, all-bytes}
+
+and-swap : (a b : Bool) → (a && b) ≡ (b && a)
+and-swap true true = refl
+and-swap true false = refl
+and-swap false true = refl
+and-swap false false = refl
+
+-- tables of which two were used again
+abbrev twice : Tables → List ℕ → List ℕ → Tables
+twice U R S =
+    tablesOf R (U .numbers) (U .heads) (U .next) S (U .order) (U .starts) (U .loads) (U .live) (U .phi) (U .readers) (U .roots) (U .places) (U .names)
+    (U .seen) (U .entry) (U .marks) (U .labels)
+
+-- of a right scratch, the two tables that serve twice
+two-long : (owners : List ℕ) (T : Tables) → long owners T ≡ true → (length (T .keys) ≡ 7696) × (length (T .offs) ≡ 7696)
+unfolding allLong longValues
+two-long owners T h =
+    let v = both-true _ _ (both-true (eqb (length owners) 2048) _ h .1) .0 in
+    let k = both-true (eqb (length (T .keys)) 7696) _ v in
+    let n = both-true (eqb (length (T .numbers)) 7696) _ (k .1) in
+    let g = both-true (eqb (length (T .heads)) 1024) _ (n .1) in
+    let o = both-true (eqb (length (T .next)) 7696) _ (g .1) in
+    (eqb-true (length (T .keys)) 7696 (k .0), eqb-true (length (T .offs)) 7696 (o .1))
+
+-- right lengths of what is lent
+three-long : (l d x : ℕ) → fits edition1 (lentOf l d x) ≡ true → (l ≡ 7680) × (d ≡ 6144) × (x ≡ 32768)
+unfolding fits edition1
+three-long l d x h =
+    let b = both-true (eqb l 7680 && eqb d 6144) (eqb x 32768) h in
+    let a = both-true (eqb l 7680) (eqb d 6144) (b .0) in
+    (eqb-true l 7680 (a .0), eqb-true d 6144 (a .1), eqb-true x 32768 (b .1))
+
+-- zeros, and as many
+as-long : (n : ℕ) (z : List ℕ) → z ≡ replicate n 0 → length z ≡ n
+as-long n z e = ap length e ∙ length-replicate n 0
+
+again : (n : ℕ) (z : List ℕ) → z ≡ replicate n 0 → z ≡ replicate (length z) 0
+again n z e = e ∙ sym (ap (λ (m : ℕ). replicate m 0) (as-long n z e))
+
+-- the number that lowering answers
+low-number : (L T B : ℕ) (f : List ℕ) (n : ℕ) → lowIn L T B f n .number ≡ n
+unfolding lowIn
+low-number L T B f zero = refl
+low-number L T B f (suc n) = rw (eqb·suc-zero n) refl
+
+module _ (f : List ℕ) (bytes : (k : ℕ) → Fits w8 (getD f k 0)) (l d x : List ℕ) (l₀ d₀ x₀ : List ℕ)
+    (blank : (l₀ ≡ replicate (length l) 0) × (d₀ ≡ replicate (length d) 0) × (x₀ ≡ replicate (length x) 0))
+    (b : Bool) (right : b ≡ fits edition1 (lentOf (length l₀) (length d₀) (length x₀))) (owners owners′ : List ℕ) (T U : Tables) (ls ks t : List ℕ)
+    (w : Lowered) (ls₁ ks₁ t₁ : List ℕ) (p : LoweredIn b f owners owners′ T U ls ks t w ls₁ ks₁ t₁) where
+  abbrev all-right : Bool
+  all-right = b && (lowFits edition1 (lentOf (length ls) (length ks) (length t)) && long owners T)
+
+  number-is : w .number ≡ firstOf all-right f
+  number-is = ap (λ (z : Low). z .number) (p .low) ∙ low-number (length ls) (length ks) (length t) f (firstOf all-right f)
+
+  keys-are : U .keys ≡ replicate (length (T .keys)) 0
+  unfolding cleared zeros
+  keys-are = ap (λ (W : Tables). W .keys) (p .tables)
+
+  offs-are : U .offs ≡ replicate (length (T .offs)) 0
+  unfolding cleared zeros
+  offs-are = ap (λ (W : Tables). W .offs) (p .tables)
+
+  -- where nothing is refused
+  module _ (z : w .number ≡ 0) where
+    none : firstOf all-right f ≡ 0
+    none = sym number-is ∙ z
+
+    all-are : all-right ≡ true
+    all-are = none-refuses all-right f none .0
+
+    file-passes : Passes f
+    file-passes = none-refuses all-right f none .1
+
+    lengths : (length l₀ ≡ 7680) × (length d₀ ≡ 6144) × (length x₀ ≡ 32768)
+    lengths = three-long (length l₀) (length d₀) (length x₀) (sym right ∙ both-true b _ all-are .0)
+
+    tables-long : (length (T .keys) ≡ 7696) × (length (T .offs) ≡ 7696)
+    tables-long = two-long owners T (both-true (lowFits edition1 (lentOf (length ls) (length ks) (length t))) _ (both-true b _ all-are .1) .1)
+
+    lines-are : lowOf w ls₁ ks₁ t₁ ≡ lowIn (length ls) (length ks) (length t) f 0
+    lines-are = p .low ∙ ap (lowIn (length ls) (length ks) (length t) f) none
+
+    gives : Given (linesOf f) ls₁ ks₁ t₁ (U .keys) (U .offs) (w .lines)
+    unfolding edition1 linesOf lowIn
+    gives =
+        let k : length (U .keys) ≡ 7696 = as-long (length (T .keys)) (U .keys) keys-are ∙ tables-long .0 in
+        let o : length (U .offs) ≡ 7696 = as-long (length (T .offs)) (U .offs) offs-are ∙ tables-long .1 in
+        subst (λ (v : Low). Given (linesOf f) (v .lines) (v .tokens) (v .text) (U .keys) (U .offs) (v .count)) (sym lines-are)
+        (given-file edition1 f (offsets (read edition1 f)) edition1-text (all-bytes f bytes) (file-passes .four) (file-passes .five) (file-passes .six) (file-passes .eighth)
+        (omega arith) (length ls) (length ks) (length t) (U .keys) (U .offs) (again (length (T .keys)) (U .keys) keys-are) (omega (arith, k)) (omega (arith, k)) (omega (arith, o)))
+
+    lends : Lends (linesOf f) 1536 l₀ d₀ x₀
+    unfolding edition1 linesOf
+    lends = record {
+      rows = lengths .0;
+      lines = again (length l) l₀ (blank .0);
+      tokens = again (length d) d₀ (blank .1);
+      text = again (length x) x₀ (blank .2);
+      most = omega (arith, lengths .2);
+      room =
+          room-file edition1 f (offsets (read edition1 f)) edition1-text (all-bytes f bytes) (file-passes .four) (file-passes .five) (file-passes .six) (file-passes .eighth)
+          1536 (length d₀) (length x₀) (omega arith) (omega (arith, lengths .1)) (omega (arith, lengths .2));
+    }
+
+  pub lowers : Lowers l₀ d₀ x₀ (U .keys) (U .offs) ls₁ ks₁ t₁ w
+  lowers = record {
+    lines = again (length l) l₀ (blank .0);
+    tokens = again (length d) d₀ (blank .1);
+    text = again (length x) x₀ (blank .2);
+    rows = again (length (T .keys)) (U .keys) keys-are;
+    spans = again (length (T .offs)) (U .offs) offs-are;
+    known = λ z. record { low = linesOf f; given = gives z };
+  }
+
+  -- the lengths at entry are those after the clearing
+  same-lent : lent l₀ d₀ x₀ ≡ lentOf (length l) (length d) (length x)
+  unfolding lent
+  same-lent =
+      rw (as-long (length l) l₀ (blank .0), as-long (length d) d₀ (blank .1), as-long (length x) x₀ (blank .2)) refl
+
+  -- nothing is lent wrongly, as the definition asks it
+  same-test : all-right ≡ (ready ls ks t owners T && fits edition1 (lent l₀ d₀ x₀))
+  unfolding ready lent
+  same-test =
+      and-swap b (lowFits edition1 (lentOf (length ls) (length ks) (length t)) && long owners T)
+      ∙ ap (λ (c : Bool). (lowFits edition1 (lentOf (length ls) (length ks) (length t)) && long owners T) && c) right
+
+  pub lists : (r : Answer) (l′ d′ x′ R S ls′ ks′ t′ : List ℕ) → Answers l₀ d₀ x₀ (U .keys) (U .offs) ls₁ ks₁ t₁ w r l′ d′ x′ R S
+      → (ls′ ≡ replicate (length ls₁) 0) × (ks′ ≡ replicate (length ks₁) 0) × (t′ ≡ replicate (length t₁) 0)
+      → length ls₁ ≡ length ls → length ks₁ ≡ length ks → length t₁ ≡ length t
+      → Lists f l d x r l′ d′ x′ ls ks t ls′ ks′ t′ owners owners′ T (twice U R S)
+  unfolding result zeros
+  lists r l′ d′ x′ R S ls′ ks′ t′ a blanks e₁ e₂ e₃ = record {
+    listing =
+        a .result (linesOf f) 1536 (λ z. (gives z, lends z))
+        ∙ ap (λ (n : ℕ). cond (eqb n 0) (resultOf (lent l₀ d₀ x₀) (structure (linesOf f))) (refusal (lent l₀ d₀ x₀) n)) number-is
+        ∙ sym (by-first (lent l₀ d₀ x₀) all-right f)
+        ∙ ap (λ (c : Bool). cond c (resultOf (lent l₀ d₀ x₀) (list edition1 f)) (refusal (lent l₀ d₀ x₀) 1)) same-test
+        ∙ ap (λ (B : Lent). result edition1 B (ready ls ks t owners T) f) same-lent;
+    low-lines = blanks .0 ∙ ap (λ (n : ℕ). replicate n 0) e₁;
+    low-tokens = blanks .1 ∙ ap (λ (n : ℕ). replicate n 0) e₂;
+    low-text = blanks .2 ∙ ap (λ (n : ℕ). replicate n 0) e₃;
+    scratch = p .scratch;
+    tables =
+        ap (λ (A : List ℕ). twice U A S) (a .rows ∙ sym (again (length (T .keys)) (U .keys) keys-are))
+        ∙ ap (λ (A : List ℕ). twice U (U .keys) A) (a .spans ∙ sym (again (length (T .offs)) (U .offs) offs-are)) ∙ p .tables;
+  }

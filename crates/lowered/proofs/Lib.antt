@@ -1,0 +1,6 @@
+mod Refusing
+mod Rereading
+mod Handing
+mod Writing
+mod Whole
+pub mod Unique
