@@ -1,38 +1,30 @@
 // Replays stored function files: a batch on standard input (their number and lengths, a word each, then the files). For each file it
-// prints a line with its number and what the reader finds.
+// prints a line with its number, then its listing.
 use libc::STDIN_FILENO;
 use libc::STDOUT_FILENO;
+use printing::print_listing;
 
 // The most files of a batch: their lengths fill one buffer.
 const MOST: u32 = 1024;
 
-fn print_verdict(i: u32, n: u32) {
+fn print_file(i: u32, f: &[u8]) {
+    io::write_all(STDOUT_FILENO, b"file ");
     io::print_decimal(STDOUT_FILENO, i as u64);
-    if n == 0 {
-        io::write_all(STDOUT_FILENO, b" sound\n");
-        return;
-    }
-    io::write_all(STDOUT_FILENO, b" refused ");
-    io::print_decimal(STDOUT_FILENO, n as u64);
     io::write_all(STDOUT_FILENO, b"\n");
-}
-
-fn judge(i: u32, f: &[u8]) {
-    let mut owners = [0u32; 2048];
-    print_verdict(i, file::number_of(file::check_file(f, &mut owners)));
+    print_listing(f);
 }
 
 // The file that fills f comes next; one that is cut off is passed over.
 fn replay_into(i: u32, f: &mut [u8]) {
     if io::read_full(STDIN_FILENO, f) == f.len() {
-        judge(i, f);
+        print_file(i, f);
     }
 }
 
-// File i has n bytes; the reader takes no more than 65,536.
+// File i has n bytes; one byte over the limit is enough of a longer one.
 fn replay(i: u32, n: usize) {
-    let mut buf = io::large_buffer();
-    if n <= 65536 {
+    let mut buf = [0u8; 65537];
+    if n <= 65537 {
         replay_into(i, &mut buf[0..n]);
     }
 }
