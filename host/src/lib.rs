@@ -1,55 +1,51 @@
-//! The proved printer for Rust programs. So far its reader (checks 2 to 6 of a function file), its tables (check 7, and all analyses) and its
-//! structuring passes.
+//! The proved printer for Rust programs: a function file in, its listing or its refusal out.
+//!
+//! A lifter puts its function into [`write::Function`], writes the file with [`write::write`] and lists it:
+//!
+//! ```
+//! use host::write::{write, Block, Expr, Function, Kind, SsaFunction, Stmt};
+//!
+//! // One block that returns rdi (register 7), the function's one argument.
+//! let kind = Kind::Return { val: Some(Expr::Use(7, 0)) };
+//! let stmt = Stmt { address: 0x1010, kind, dead: false, flags: false, push: false };
+//! let block = Block { start: 0x1010, stmts: vec![stmt], ..Block::default() };
+//! let ssa = SsaFunction { blocks: vec![block], bits: 64 };
+//! let function = Function { ssa, returns: true, args: vec![7], ..Function::default() };
+//!
+//! let file = write(&function)?.bytes();
+//! let listing = host::list(&file)?;
+//! assert_eq!(listing.lines[0].tokens[0].text, "return");
+//! assert_eq!(listing.to_string(), "ifs 0 loops 0 lines 1 tests 0\n1010 1 return a1;\n");
+//! # Ok::<(), Box<dyn std::error::Error>>(())
+//! ```
+//!
+//! Whoever lists many files keeps a [`Lister`]. What is wrong with a file that is refused, [`Refusal::about`] says.
+//! The other modules are there for the comparisons with upstream's Rust; the printer's pieces need the feature `pieces`.
 
-pub mod passes;
-pub mod pieces;
+#[macro_use]
+mod lent;
+pub mod entry;
+mod lister;
+mod listing;
+mod refusal;
 pub mod runs;
 pub mod sheet;
 pub mod tables;
+pub mod turns;
+pub mod upstream;
+pub mod write;
 
-use oracle::refusal::Refusal;
+#[cfg(feature = "pieces")]
+pub mod lowered;
+#[cfg(feature = "pieces")]
+pub mod passes;
+#[cfg(feature = "pieces")]
+pub mod pieces;
+#[cfg(feature = "pieces")]
+pub mod reader;
+#[cfg(feature = "pieces")]
+pub mod values;
 
-/// The scratch of the reader: a number for each expression that a file may have.
-pub const OWNERS: usize = 2_048;
-
-extern "C" {
-    /// `file::sorkhelaw_check`: each slice is a pointer and a length.
-    fn sorkhelaw_check(file: *const u8, file_len: usize, owners: *mut u32, owners_len: usize) -> u32;
-}
-
-/// The scratch, kept between calls. It is zeros before and after each.
-pub struct Reader {
-    owners: Vec<u32>,
-}
-
-impl Default for Reader {
-    fn default() -> Self {
-        Reader { owners: vec![0; OWNERS] }
-    }
-}
-
-impl Reader {
-    /// The first refusal of 2 to 6 that a file gets, if any.
-    pub fn check(&mut self, file: &[u8]) -> Result<(), Refusal> {
-        // The contract asks nothing of the slices, and both are Rust's own.
-        match unsafe { sorkhelaw_check(file.as_ptr(), file.len(), self.owners.as_mut_ptr(), self.owners.len()) } {
-            0 => Ok(()),
-            n => Err(Refusal(n as u8)),
-        }
-    }
-
-    /// The same with scratch of another length, which is refused with 1.
-    pub fn check_with(file: &[u8], owners: &mut [u32]) -> u32 {
-        unsafe { sorkhelaw_check(file.as_ptr(), file.len(), owners.as_mut_ptr(), owners.len()) }
-    }
-
-    /// Whether the scratch is zeros.
-    pub fn is_clean(&self) -> bool {
-        self.owners.iter().all(|n| *n == 0)
-    }
-
-    /// Spoils the scratch, to see that a check does not depend on it.
-    pub fn spoil(&mut self, with: u32) {
-        self.owners.fill(with);
-    }
-}
+pub use lister::{list, Lister};
+pub use listing::{Kind, Line, Listing, Token};
+pub use refusal::Refusal;

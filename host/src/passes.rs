@@ -1,15 +1,9 @@
 //! The structuring passes by themselves: lowered lines in, finished lines out.
 
-use oracle::refusal::Refusal;
 use oracle::upstream::pseudo::PseudoLine;
 
-use crate::sheet::Sheet;
-
-/// What lowering may write: lines, tokens and bytes; and what the caller lends for lines.
-const LINES: usize = 768;
-const TOKENS: usize = 6_144;
-const BYTES: usize = 32_768;
-const LENT_LINES: usize = 1_536;
+use crate::sheet::{zeros, Sheet, LENT_LINES, LINES, ROW};
+use crate::{Line, Refusal};
 
 extern "C" {
     /// `probe::sorkhelaw_structure`: each slice is a pointer and a length.
@@ -59,8 +53,8 @@ pub struct Passes {
 impl Default for Passes {
     fn default() -> Self {
         Passes {
-            lowered: Sheet::new(LINES, TOKENS, BYTES),
-            lent: Sheet::new(LENT_LINES, TOKENS, BYTES),
+            lowered: Sheet::lowered(),
+            lent: Sheet::lent(),
             rows: vec![0; LENT_LINES],
             spans: vec![0; LINES + 1],
             count: 0,
@@ -73,7 +67,7 @@ impl Passes {
     pub fn lay(&mut self, low: &[PseudoLine]) -> bool {
         self.lent.clear();
         self.count = low.len();
-        self.lowered.fill(low)
+        fill(&mut self.lowered, low)
     }
 
     /// The passes over the lines that were laid in, or refusal 9.
@@ -103,24 +97,43 @@ impl Passes {
                 self.count,
             )
         };
-        if answer != 0 {
-            return Err(Refusal(answer as u8));
-        }
+        Refusal::answered(answer)?;
         let [lines, tokens, bytes, ifs, loops, tests] = counts.map(|n| n as usize);
         Ok(Counts { lines, tokens, bytes, ifs, loops, tests })
     }
 
     /// The finished lines, if the buffers hold lines and zeros behind them.
-    pub fn finished(&self, c: Counts) -> Option<Vec<PseudoLine>> {
-        let rest = |l: &[u64], n: usize| l.get(n..).is_some_and(|l| l.iter().all(|x| *x == 0));
-        let clean = rest(&self.lent.lines, crate::sheet::ROW * c.lines)
-            && rest(&self.lent.tokens, c.tokens)
-            && self.lent.text.get(c.bytes..).is_some_and(|l| l.iter().all(|b| *b == 0));
-        self.lent.read(c.lines).filter(|_| clean)
+    pub fn finished(&self, c: Counts) -> Result<Vec<Line>, String> {
+        let lines = self.lent.read(c.lines)?;
+        let counted = (lines.iter().map(|l| l.tokens.len()).sum(), lines.iter().map(Line::bytes).sum());
+        match self.lent.ends_with(&lines) && (c.tokens, c.bytes) == counted {
+            true => Ok(lines),
+            false => Err("no zeros behind the lines, or other counts".into()),
+        }
     }
 
     /// Whether both tables of the passes are zeros, and after a refusal the lent buffers too.
     pub fn is_clean(&self, refused: bool) -> bool {
-        self.rows.iter().chain(&self.spans).all(|n| *n == 0) && (!refused || self.lent.is_clean())
+        zeros(&self.rows) && zeros(&self.spans) && (!refused || self.lent.is_clean())
     }
+}
+
+/// These lines, and zeros behind them; false where there is no room.
+fn fill(sheet: &mut Sheet, lines: &[PseudoLine]) -> bool {
+    sheet.clear();
+    let (mut token, mut end) = (0, 0);
+    for (i, l) in lines.iter().enumerate() {
+        for t in &l.tokens {
+            let Some(place) = sheet.text.get_mut(end..end + t.t.len()) else { return false };
+            place.copy_from_slice(t.t.as_bytes());
+            end += t.t.len();
+            let Some(place) = sheet.tokens.get_mut(token) else { return false };
+            // Upstream declares the kinds in the order of our numbers.
+            *place = 8 * end as u64 + t.k as u64;
+            token += 1;
+        }
+        let Some(row) = sheet.lines.get_mut(ROW * i..ROW * (i + 1)) else { return false };
+        row.copy_from_slice(&[l.address.is_some().into(), l.address.unwrap_or(0), l.indent.into(), token as u64, 0]);
+    }
+    true
 }

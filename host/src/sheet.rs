@@ -1,22 +1,15 @@
 //! Lines as the printer has them in its buffers: five numbers a line, one a token, and the text.
 
-use oracle::upstream::model::{Token, TokenKind};
-use oracle::upstream::pseudo::PseudoLine;
+use crate::{Kind, Line, Token};
 
 /// The numbers of a line: whether it has an address, the address, its indent, the end of its tokens, 0.
 pub const ROW: usize = 5;
 
-/// The kinds by their numbers.
-const KINDS: [TokenKind; 8] = [
-    TokenKind::Text,
-    TokenKind::Register,
-    TokenKind::Number,
-    TokenKind::Keyword,
-    TokenKind::Symbol,
-    TokenKind::Address,
-    TokenKind::Punct,
-    TokenKind::Prefix,
-];
+/// What lowering may write, in lines, tokens and bytes; and the lines that a caller lends.
+pub const LINES: usize = 768;
+const TOKENS: usize = 6_144;
+const BYTES: usize = 32_768;
+pub const LENT_LINES: usize = 1_536;
 
 /// Buffers of fixed lengths.
 pub struct Sheet {
@@ -26,9 +19,18 @@ pub struct Sheet {
 }
 
 impl Sheet {
-    /// Zeros, with room for so many lines, tokens and bytes.
-    pub fn new(lines: usize, tokens: usize, bytes: usize) -> Sheet {
-        Sheet { lines: vec![0; ROW * lines], tokens: vec![0; tokens], text: vec![0; bytes] }
+    /// The buffers that a caller lends for a listing, zeros.
+    pub fn lent() -> Sheet {
+        Sheet::new(LENT_LINES)
+    }
+
+    /// The buffers that lowering writes, zeros.
+    pub fn lowered() -> Sheet {
+        Sheet::new(LINES)
+    }
+
+    fn new(lines: usize) -> Sheet {
+        Sheet { lines: vec![0; ROW * lines], tokens: vec![0; TOKENS], text: vec![0; BYTES] }
     }
 
     pub fn clear(&mut self) {
@@ -37,54 +39,60 @@ impl Sheet {
         self.text.fill(0);
     }
 
-    /// These lines, and zeros behind them; false where there is no room.
-    pub fn fill(&mut self, lines: &[PseudoLine]) -> bool {
-        self.clear();
-        let (mut token, mut end) = (0, 0);
-        for (i, l) in lines.iter().enumerate() {
-            for t in &l.tokens {
-                let Some(place) = self.text.get_mut(end..end + t.t.len()) else { return false };
-                place.copy_from_slice(t.t.as_bytes());
-                end += t.t.len();
-                let Some(place) = self.tokens.get_mut(token) else { return false };
-                *place = 8 * end as u64 + kind(t.k);
-                token += 1;
-            }
-            let Some(row) = self.lines.get_mut(ROW * i..ROW * (i + 1)) else { return false };
-            row.copy_from_slice(&[l.address.is_some().into(), l.address.unwrap_or(0), l.indent.into(), token as u64, 0]);
-        }
-        true
+    /// Spoils the buffers, as `Tables::spoil` does.
+    pub fn spoil(&mut self, with: u64) {
+        let number = |i: usize| i as u64 ^ with;
+        self.lines.iter_mut().enumerate().for_each(|(i, n)| *n = number(i) | 1);
+        self.tokens.iter_mut().enumerate().for_each(|(i, n)| *n = number(i) | 1);
+        self.text.iter_mut().enumerate().for_each(|(i, b)| *b = number(i) as u8 | 1);
     }
 
-    /// The first n lines; none where a number or a text of theirs is not one that lines have.
-    pub fn read(&self, n: usize) -> Option<Vec<PseudoLine>> {
+    /// The first n lines, or what is in their place that is no line.
+    pub fn read(&self, n: usize) -> Result<Vec<Line>, String> {
+        let rows = n.checked_mul(ROW).and_then(|end| self.lines.get(..end)).ok_or_else(|| format!("there is no room for {n} lines"))?;
         let (mut token, mut from) = (0, 0);
         let mut all = Vec::with_capacity(n);
-        for row in self.lines.chunks(ROW).take(n) {
-            let [has, address, indent, last, 0] = *row else { return None };
-            let mut tokens = Vec::new();
-            while token < last as usize {
-                let number = *self.tokens.get(token)?;
-                let end = (number / 8) as usize;
-                let t = String::from_utf8(self.text.get(from..end)?.to_vec()).ok()?;
-                tokens.push(Token { k: KINDS[(number % 8) as usize], t });
-                (token, from) = (token + 1, end);
-            }
-            let address = match has {
-                0 => None,
-                1 => Some(address),
-                _ => return None,
+        for row in rows.chunks(ROW) {
+            let wrong = || format!("line {} is {row:?}", all.len());
+            let (address, indent, last) = match *row {
+                [0, 0, indent, last, 0] if last >= token => (None, indent, last),
+                [1, address, indent, last, 0] if last >= token => (Some(address), indent, last),
+                _ => return Err(wrong()),
             };
-            all.push(PseudoLine { address, indent: indent.try_into().ok()?, tokens });
+            let indent = u8::try_from(indent).map_err(|_| wrong())?;
+            let mut tokens = Vec::new();
+            while token < last {
+                tokens.push(self.token(token as usize, from)?);
+                (token, from) = (token + 1, self.tokens[token as usize] / 8);
+            }
+            all.push(Line { address, indent, tokens });
         }
-        (all.len() == n).then_some(all)
+        Ok(all)
+    }
+
+    /// A token whose text begins at `from`.
+    fn token(&self, at: usize, from: u64) -> Result<Token, String> {
+        let number = *self.tokens.get(at).ok_or_else(|| format!("there is no token {at}"))?;
+        let kind = Kind::numbered(number % 8).ok_or_else(|| format!("token {at} is of kind {}", number % 8))?;
+        let (from, end) = (from as usize, (number / 8) as usize);
+        let text = self.text.get(from..end).ok_or_else(|| format!("the text of token {at} goes from {from} to {end}"))?;
+        let text = String::from_utf8(text.to_vec()).map_err(|e| format!("the text of token {at}: {e}"))?;
+        Ok(Token { kind, text })
+    }
+
+    /// Whether zeros are all that stands behind these lines.
+    pub fn ends_with(&self, lines: &[Line]) -> bool {
+        let (tokens, bytes) = (lines.iter().map(|l| l.tokens.len()).sum(), lines.iter().map(Line::bytes).sum());
+        let rest = |all: &[u64], from: usize| all.get(from..).is_some_and(zeros);
+        rest(&self.lines, ROW * lines.len()) && rest(&self.tokens, tokens) && self.text.get(bytes..).is_some_and(zeros)
     }
 
     pub fn is_clean(&self) -> bool {
-        self.lines.iter().chain(&self.tokens).all(|n| *n == 0) && self.text.iter().all(|b| *b == 0)
+        zeros(&self.lines) && zeros(&self.tokens) && zeros(&self.text)
     }
 }
 
-fn kind(k: TokenKind) -> u64 {
-    KINDS.iter().position(|other| *other == k).unwrap_or(0) as u64
+/// Whether all numbers are 0, looked at many at a time.
+pub fn zeros<T: Copy + Default + PartialEq + std::ops::BitOr<Output = T>>(numbers: &[T]) -> bool {
+    numbers.iter().fold(T::default(), |all, n| all | *n) == T::default()
 }

@@ -1,70 +1,110 @@
-//! `compare PROFILE|all SEED COUNT`: the proved reader against the oracle's on generated files: the same refusal, scratch zero after each.
-//! Prints the first difference with its profile and seed and exits 1; else one line with the counts, the times and their ratio.
+//! `compare PROFILE|all SEED COUNT`: the proved printer against upstream's on generated files, on all cores: the same refusal, or the same
+//! lines, tokens with their kinds, addresses, indents and counts. Every buffer is spoilt before each file; behind a listing are zeros, on a
+//! refusal everywhere, and in all scratch always. Stops at the first difference, keeps its file as `difference.bin` and exits 1; else
+//! prints one line.
 
 use std::process::ExitCode;
-use std::time::{Duration, Instant};
+use std::time::Duration;
 
-use host::Reader;
-use host::runs::{ended, through, Failure};
+use host::entry::{Answer, Buffers};
+use host::runs::{ended, on_all_cores, Failure};
+use host::turns::{timed, Longest};
+use host::upstream::differing;
 use oracle::gen::{file, Profile};
-use oracle::read::read;
+use oracle::list::{list, Listing};
+use oracle::refusal::Refusal;
 
 fn main() -> ExitCode {
     ended("compare", run())
 }
 
-/// What a run measures.
+/// A core's buffers and what it measures.
+#[derive(Default)]
+struct Core {
+    buffers: Buffers,
+    tally: Tally,
+}
+
 #[derive(Default)]
 struct Tally {
-    files: u64,
-    bytes: u64,
+    /// Files by what was answered, 0 for a listing.
     answers: [u64; 10],
     ours: Duration,
     theirs: Duration,
-    longest: (Duration, u64),
+    longest: Longest,
 }
 
 fn run() -> Result<String, Failure> {
-    let mut reader = Reader::default();
-    let mut tally = Tally::default();
-    through("compare", |profile, seed| one(&mut reader, &mut tally, profile, seed))?;
-    Ok(report(&tally))
+    let cores = on_all_cores("compare", one)?;
+    Ok(report(cores.into_iter().fold(Tally::default(), |sum, core| sum.with(core.tally))))
 }
 
-fn one(reader: &mut Reader, tally: &mut Tally, profile: Profile, seed: u64) -> Result<(), String> {
-    let bytes = file(profile, seed);
-    reader.spoil(seed as u32);
-    let start = Instant::now();
-    let ours = reader.check(&bytes);
-    let middle = Instant::now();
-    let theirs = read(&bytes).map(|_| ());
-    let end = Instant::now();
-    if ours != theirs {
-        return Err(format!("ours {ours:?}, the oracle {theirs:?}"));
-    }
-    if !reader.is_clean() {
-        return Err("the scratch is not zeros".into());
-    }
-    tally.files += 1;
-    tally.bytes += bytes.len() as u64;
-    tally.answers[ours.err().map_or(0, |r| r.0 as usize)] += 1;
-    tally.ours += middle - start;
-    tally.theirs += end - middle;
-    tally.longest = tally.longest.max((middle - start, seed));
+fn one(core: &mut Core, profile: Profile, seed: u64) -> Result<(), String> {
+    let bytes = &file(profile, seed);
+    let Core { buffers, tally } = core;
+    buffers.spoil(seed);
+    let (answer, ours) = timed(|| buffers.run(bytes));
+    let (listing, theirs) = timed(|| list(bytes));
+    same(buffers, answer, &listing)?;
+    tally.answers[answer.number as usize] += 1;
+    tally.ours += ours;
+    tally.theirs += theirs;
+    tally.longest.consider(ours, (profile, seed), bytes, || buffers.run(bytes), || list(bytes));
     Ok(())
 }
 
-fn report(t: &Tally) -> String {
-    let per = |d: Duration| d.as_nanos() as f64 / t.bytes.max(1) as f64;
+/// Whether answer and buffers are what upstream's listing asks for.
+fn same(buffers: &Buffers, answer: Answer, listing: &Result<Listing, Refusal>) -> Result<(), String> {
+    let asked = asked(listing);
+    if answer != asked {
+        // Which line it is says more than the counts, where both have lines.
+        if let (Ok(l), 0) = (listing, answer.number) {
+            differing(&buffers.lent.read(answer.lines)?, &l.lines)?;
+        }
+        return Err(format!("ours {answer:?}, upstream {asked:?}"));
+    }
+    if !buffers.scratch.is_clean() {
+        return Err("the scratch is not zeros".into());
+    }
+    let Ok(l) = listing else {
+        return if buffers.lent.is_clean() { Ok(()) } else { Err("refused, but the lent buffers are not zeros".into()) };
+    };
+    let lines = buffers.lent.read(answer.lines)?;
+    differing(&lines, &l.lines)?;
+    if buffers.lent.ends_with(&lines) { Ok(()) } else { Err("no zeros behind the listing".into()) }
+}
+
+/// The answer that goes with upstream's listing.
+fn asked(listing: &Result<Listing, Refusal>) -> Answer {
+    match listing {
+        Err(r) => Answer { number: r.0.into(), lines: 0, tokens: 0, bytes: 0, ifs: 0, loops: 0, tests: 0 },
+        Ok(l) => {
+            let tokens = || l.lines.iter().flat_map(|x| &x.tokens);
+            let (lines, bytes) = (l.lines.len(), tokens().map(|t| t.t.len()).sum());
+            Answer { number: 0, lines, tokens: tokens().count(), bytes, ifs: l.ifs, loops: l.loops, tests: l.tests() }
+        }
+    }
+}
+
+impl Tally {
+    fn with(mut self, other: Tally) -> Tally {
+        self.answers.iter_mut().zip(other.answers).for_each(|(a, b)| *a += b);
+        self.ours += other.ours;
+        self.theirs += other.theirs;
+        self.longest = self.longest.max(other.longest);
+        self
+    }
+}
+
+fn report(t: Tally) -> String {
+    let refused: Vec<String> = (1..10).filter(|n| t.answers[*n] > 0).map(|n| format!("{} with {n}", t.answers[n])).collect();
     format!(
-        "{} files equal; sound {}, refused 2 to 6: {:?}; ours {:.2} ns a byte, the oracle {:.2}, ratio {:.1}; longest {:?} (seed {})",
-        t.files,
+        "{} files, {} accepted, refused: {}; 0 different; longest {}; in all ours {:.1} s, upstream {:.1} s",
+        t.answers.iter().sum::<u64>(),
         t.answers[0],
-        &t.answers[2..7],
-        per(t.ours),
-        per(t.theirs),
-        per(t.theirs) / per(t.ours).max(1e-9),
-        t.longest.0,
-        t.longest.1,
+        if refused.is_empty() { "none".into() } else { refused.join(", ") },
+        t.longest,
+        t.ours.as_secs_f64(),
+        t.theirs.as_secs_f64(),
     )
 }

@@ -6,7 +6,9 @@ use std::process::ExitCode;
 use std::time::{Duration, Instant};
 
 use host::runs::{ended, through, Failure};
-use host::tables::{Tables, Values};
+use host::tables::Tables;
+use host::turns::Longest;
+use host::values::Values;
 use oracle::gen::{file, Profile};
 use oracle::list::{tables, Row};
 use oracle::read::records;
@@ -23,8 +25,7 @@ struct Tally {
     answers: [u64; 10],
     ours: Duration,
     theirs: Duration,
-    /// Of the file that took us longest: our time, upstream's, its profile and seed.
-    longest: (Duration, Duration, &'static str, u64),
+    longest: Longest,
 }
 
 fn run() -> Result<String, Failure> {
@@ -36,7 +37,7 @@ fn run() -> Result<String, Failure> {
 
 fn one(lent: &mut Tables, tally: &mut Tally, profile: Profile, seed: u64) -> Result<(), String> {
     let bytes = file(profile, seed);
-    lent.spoil(seed as u32);
+    lent.spoil(seed);
     let start = Instant::now();
     let ours = lent.fill(&bytes);
     let middle = Instant::now();
@@ -46,7 +47,8 @@ fn one(lent: &mut Tables, tally: &mut Tally, profile: Profile, seed: u64) -> Res
     if ours != refusal {
         return Err(format!("ours {ours}, upstream {refusal}"));
     }
-    if !lent.is_clean(ours != 0) {
+    let clean = if ours == 0 { lent.is_handed_out() } else { lent.is_clean() };
+    if !clean {
         return Err("a table is left behind".into());
     }
     if let Ok(rows) = theirs {
@@ -57,25 +59,8 @@ fn one(lent: &mut Tables, tally: &mut Tally, profile: Profile, seed: u64) -> Res
     tally.answers[ours as usize] += 1;
     tally.ours += middle - start;
     tally.theirs += end - middle;
-    if middle - start > tally.longest.0 {
-        let again = again(lent, &bytes);
-        tally.longest = tally.longest.max((again.0, again.1, profile.name(), seed));
-    }
+    tally.longest.consider(middle - start, (profile, seed), &bytes, || lent.fill(&bytes), || tables(&bytes));
     Ok(())
-}
-
-/// Our time for a file and upstream's, the least of some turns: what other programs took in between does not count.
-fn again(lent: &mut Tables, bytes: &[u8]) -> (Duration, Duration) {
-    let mut least = (Duration::MAX, Duration::MAX);
-    for _ in 0..9 {
-        let start = Instant::now();
-        lent.fill(bytes);
-        let middle = Instant::now();
-        let theirs = tables(bytes);
-        least = (least.0.min(middle - start), least.1.min(middle.elapsed()));
-        drop(theirs);
-    }
-    least
 }
 
 fn compare(lent: &Tables, bytes: &[u8], rows: &[Row]) -> Result<(), String> {
@@ -92,16 +77,13 @@ fn compare(lent: &Tables, bytes: &[u8], rows: &[Row]) -> Result<(), String> {
 fn report(t: &Tally) -> String {
     let per = |d: Duration| d.as_nanos() as f64 / 1e3 / t.files.max(1) as f64;
     format!(
-        "{} files equal, {} values; accepted {}, refused 2 to 7: {:?}; ours {:.1} us a file, upstream {:.1}; longest {:?} ({} {}), upstream {:?} there",
+        "{} files equal, {} values; accepted {}, refused 2 to 7: {:?}; ours {:.1} us a file, upstream {:.1}; longest {}",
         t.files,
         t.values,
         t.answers[0],
         &t.answers[2..8],
         per(t.ours),
         per(t.theirs),
-        t.longest.0,
-        t.longest.2,
-        t.longest.3,
-        t.longest.1,
+        t.longest,
     )
 }
