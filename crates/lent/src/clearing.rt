@@ -5,10 +5,10 @@ ghost use lib.ListN.{length, replicate};
 pub fn clear_bytes(bytes: &mut [u8])
     ensures { λ _. ⌜ now (bytes .exit) ≡ replicate (length (now (bytes .entry))) 0 ⌝ }
 {
-    let mut i = 0;
-    while i < bytes.len() {
-        bytes[i] = 0;
-        i += 1;
+    let mut at = 0;
+    while at < bytes.len() {
+        bytes[at] = 0;
+        at += 1;
     }
 }
 

@@ -9,10 +9,10 @@ use Rattle.lent.proofs.clearing.clear_bytes.Statement.{statement}
 use Rattle.lent.proofs.clearing.clear_bytes.Tie as tie
 
 abbrev Inv-loop : tie.InvT-loop
-Inv-loop bytes₀ i₀ bytes i = ((j : ℕ) → j < i → ownersAt bytes j ≡ 0) × (i ≤ length bytes) × (length bytes ≡ length bytes₀)
+Inv-loop bytes₀ at₀ bytes at = ((j : ℕ) → j < at → ownersAt bytes j ≡ 0) × (at ≤ length bytes) × (length bytes ≡ length bytes₀)
 
 abbrev μ-loop : tie.MeasureT-loop
-μ-loop bytes₀ i₀ bytes i = length bytes - i
+μ-loop bytes₀ at₀ bytes at = length bytes - at
 
 loop-holds : tie.Need-loop-holds Inv-loop μ-loop
 loop-holds c = ((λ j h. absurd (omega arith)), omega arith, refl)
@@ -20,14 +20,14 @@ loop-holds c = ((λ j h. absurd (omega arith)), omega arith, refl)
 slice-write-bytes : tie.Need-slice-write-bytes Inv-loop μ-loop
 slice-write-bytes c = search needs
 
-add-i : tie.Need-add-i Inv-loop μ-loop
-add-i c = search needs
+add-at : tie.Need-add-at Inv-loop μ-loop
+add-at c = search needs
 
 loop-less : tie.Need-loop-less Inv-loop μ-loop
-loop-less c = omega (arith, length-set (c .before .loop .bytes) (c .before .loop .i) 0)
+loop-less c = omega (arith, length-set (c .before .loop .bytes) (c .before .loop .at) 0)
 
 loop-again : tie.Need-loop-again Inv-loop μ-loop
-loop-again c = (clear-on _ _ (c .before .loop .inv .0) (c .loop-test .taken), omega (arith, length-set (c .before .loop .bytes) (c .before .loop .i) 0), simp length-set (c .before .loop .inv .2))
+loop-again c = (clear-on _ _ (c .before .loop .inv .0) (c .loop-test .taken), omega (arith, length-set (c .before .loop .bytes) (c .before .loop .at) 0), simp length-set (c .before .loop .inv .2))
 
 same-length : tie.Need-same-length Inv-loop μ-loop
 same-length c = c .before .loop .inv .2
@@ -43,7 +43,7 @@ clear-bytes-spec =
     μ-loop
     loop-holds
     slice-write-bytes
-    add-i
+    add-at
     loop-less
     loop-again
     same-length
