@@ -6,7 +6,7 @@ use Prim.Native.Nat.{ℕ}
 use Rattle.definition.specs.Tokens.{Token}
 use Rattle.text.proofs.Unique.{equation}
 use Rattle.room.specs.Room.{Room, Sheet, emitAll, seen, writeAll, seenSheet}
-use Rattle.outline.specs.Rows.{originOf}
+use Rattle.outline.specs.Rows.{indentOf, originOf}
 use Rattle.finish.specs.Finishing.{countOf, rowAddress, kindToks, linesIn}
 
 pub finish : (x : Sheet) (ls ks t rows : List ℕ) (n : ℕ) (r s : Option Sheet) → r ≡ seenSheet (writeAll x (linesIn ls ks t rows n))
@@ -25,3 +25,6 @@ count-of ls i = equation (countOf ls i)
 -- of the address as an option
 pub row-address : (ls : List ℕ) (w : ℕ) (r s : Option ℕ) → r ≡ rowAddress ls w → s ≡ rowAddress ls w → r ≡ s
 row-address ls w = equation (rowAddress ls w)
+
+pub row-indent : (w r s : ℕ) → r ≡ indentOf w → s ≡ indentOf w → r ≡ s
+row-indent w = equation (indentOf w)

@@ -6,7 +6,7 @@ use crate::kinds::put_row;
 use crate::rows::count_of;
 use crate::rows::origin_of;
 use crate::rows::row_address;
-use outline::rows::indent_of;
+use crate::rows::row_indent;
 use outline::rows::kind_of;
 use outline::rows::row_at;
 use room::line::end_line;
@@ -37,7 +37,7 @@ fn write_row(
     let a = first_of(from, i);
     let n = count_of(from, i);
     let out = put_row(tokens, text, out, lowered, source, kind, a, n);
-    let indent = indent_of(w);
+    let indent = row_indent(from, w, out.tokens as u64);
     let at = row_address(from, w);
     end_line(lines, out, indent, at)
 }

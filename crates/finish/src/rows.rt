@@ -1,4 +1,6 @@
 // A row's lowered line, read off the lowered buffers.
+use indents::raised;
+use outline::rows::indent_of;
 use outline::rows::kind_of;
 use room::out::At;
 use sheet::lines::first_of;
@@ -6,7 +8,9 @@ use sheet::lines::last_of;
 use sheet::tokens::number_at;
 ghost use mathlib.Core.Path.{_≡_};
 ghost use Rattle.room.specs.Room.{optionOf};
-ghost use Rattle.outline.specs.Rows.{originOf};
+ghost use Prim.Native.Nat.{_+_, _*_, _<_};
+ghost use Rattle.sheet.specs.Buffers.{numberAt};
+ghost use Rattle.outline.specs.Rows.{indentOf, originOf};
 ghost use Rattle.finish.specs.Finishing.{countOf, addressIn, rowAddress};
 
 // The kind of a closing row.
@@ -55,4 +59,30 @@ pub fn row_address(from: &[u64], w: u64) -> At
         return At::Nowhere;
     }
     address_at(from, origin_of(w))
+}
+
+// Number k of line i.
+fn line_number(from: &[u64], i: usize, k: usize) -> u64
+    requires { ⌜ k < 5 ⌝ }
+    ensures { λ r. ⌜ r ≡ numberAt (now (from .entry)) (5 * i + k) ⌝ }
+{
+    if from.len() / ROW < i {
+        return 0;
+    }
+    number_at(from, ROW * i + k)
+}
+
+// How deep the row's line stands: its record as lowering left it, raised as often as the row was.
+pub fn row_indent(from: &[u64], w: u64, end: u64) -> u64
+    ensures { λ r. ⌜ r ≡ indentOf w ⌝ }
+{
+    let deep = indent_of(w);
+    let i = origin_of(w);
+    let low = line_number(from, i, 2);
+    if deep < low {
+        return deep;
+    }
+    let has = line_number(from, i, 0);
+    let address = line_number(from, i, 1);
+    raised(has, address, low, end, deep - low)
 }

@@ -8,7 +8,7 @@ use Rattle.finish.proofs.kinds.put_row.Reads as put-row-reads
 use Rattle.finish.proofs.rows.count_of.Reads as count-of-reads
 use Rattle.finish.proofs.rows.origin_of.Reads as origin-of-reads
 use Rattle.finish.proofs.rows.row_address.Reads as row-address-reads
-use Rattle.outline.proofs.rows.indent_of.Reads as indent-of-reads
+use Rattle.finish.proofs.rows.row_indent.Reads as row-indent-reads
 use Rattle.outline.proofs.rows.kind_of.Reads as kind-of-reads
 use Rattle.room.proofs.line.end_line.Reads as end-line-reads
 use Rattle.sheet.proofs.lines.first_of.Reads as first-of-reads
@@ -28,8 +28,8 @@ count-of-requires c κs = search needs
 put-row-requires : tie.Need-put-row-requires
 put-row-requires c κs = let a = c .before .before .before .before .before .before .before .before .before .before .before .before .args in row-headed (a .from .now) (a .lowered .now) (a .source .now) (a .w) _ _ _ _ (c .before .before .before .before .before .origin-of .ensures) (c .before .before .before .before .kind-of .ensures) (c .before .before .before .first-of .ensures) (c .before .before .count-of .ensures) (c .before .before .before .before .before .before .before .before .before .before .before .before .pre)
 
-indent-of-requires : tie.Need-indent-of-requires
-indent-of-requires c κs = search needs
+row-indent-requires : tie.Need-row-indent-requires
+row-indent-requires c κs = search needs
 
 row-address-requires : tie.Need-row-address-requires
 row-address-requires c κs = search needs
@@ -47,7 +47,7 @@ same-length-3 : tie.Need-same-length-3
 same-length-3 c = search needs
 
 returns : tie.Need-returns
-returns c = let a = c .before .before .before .before .before .before .before .before .before .before .before .before .before .before .before .before .before .before .before .before .before .before .before .args in row-written (a .from .now) (a .lowered .now) (a .source .now) (a .w) _ _ _ _ _ _ _ _ _ _ _ (c .before .before .before .before .before .before .before .before .before .before .before .before .before .before .before .before .origin-of .ensures) (c .before .before .before .before .before .before .before .before .before .before .before .before .before .before .before .kind-of .ensures) (c .before .before .before .before .before .before .before .before .before .before .before .before .before .before .first-of .ensures) (c .before .before .before .before .before .before .before .before .before .before .before .before .before .count-of .ensures) (c .before .before .before .before .before .before .before .before .before .before .put-row .ensures) (c .before .before .before .before .before .indent-of .ensures) (c .before .before .before .before .row-address .ensures) (c .before .before .end-line .ensures)
+returns c = let a = c .before .before .before .before .before .before .before .before .before .before .before .before .before .before .before .before .before .before .before .before .before .before .before .args in row-written (a .from .now) (a .lowered .now) (a .source .now) (a .w) _ _ _ _ _ _ _ _ _ _ _ (c .before .before .before .before .before .before .before .before .before .before .before .before .before .before .before .before .origin-of .ensures) (c .before .before .before .before .before .before .before .before .before .before .before .before .before .before .before .kind-of .ensures) (c .before .before .before .before .before .before .before .before .before .before .before .before .before .before .first-of .ensures) (c .before .before .before .before .before .before .before .before .before .before .before .before .before .count-of .ensures) (c .before .before .before .before .before .before .before .before .before .before .put-row .ensures) (c .before .before .before .before .before .row-indent .ensures) (c .before .before .before .before .row-address .ensures) (c .before .before .end-line .ensures)
 
 pub write-row-spec : {M : Type 1} → statement M
 write-row-spec =
@@ -58,7 +58,7 @@ write-row-spec =
     first-of-requires
     count-of-requires
     put-row-requires
-    indent-of-requires
+    row-indent-requires
     row-address-requires
     end-line-requires
     same-length
