@@ -2,6 +2,7 @@
 use mathlib.Core.Path.{_≡_, sym, ap, _∙_}
 use mathlib.Core.List.{List}
 use Prim.Native.Nat.{ℕ}
+use lib.ListN.{take}
 use Rattle.definition.specs.Tokens.{Line}
 use Rattle.definition.specs.Listing.{Result}
 use Rattle.tables.specs.Tables.{Tables}
@@ -34,7 +35,8 @@ module _ (f l d x ls ks t owners : List ℕ) (T : Tables) (r r₁ : Answer) (l�
 -- the lines and the room of one are those of the other, where there are any
 module _ (l d x R S ls ks t : List ℕ) (w : Lowered) (r r₁ : Answer) (l′ d′ x′ R′ S′ l₁ d₁ x₁ R₁ S₁ : List ℕ) (a : Answers l d x R S ls ks t w r l′ d′ x′ R′ S′)
     (b : Answers l d x R S ls ks t w r₁ l₁ d₁ x₁ R₁ S₁) where
-  pub structured : (low : List Line) (m : ℕ) → (w .number ≡ 0 → Given low ls ks t R S (w .lines) × Lends low m l d x) → (r ≡ r₁) × (l′ ≡ l₁) × (d′ ≡ d₁) × (x′ ≡ x₁)
+  pub structured : (low : List Line) (m : ℕ) → (w .number ≡ 0 → Given low ls ks t (take 1536 R) (take 769 S) (w .lines) × Lends low m l d x)
+      → (r ≡ r₁) × (l′ ≡ l₁) × (d′ ≡ d₁) × (x′ ≡ x₁)
   structured low m g = parts r r₁ l′ d′ x′ l₁ d₁ x₁ (a .result low m g ∙ sym (b .result low m g))
 
   pub structured-tables : (R′ ≡ R₁) × (S′ ≡ S₁)

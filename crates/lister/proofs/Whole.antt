@@ -3,10 +3,11 @@
 use mathlib.Core.Path.{_≡_, refl, sym, subst, ap, _∙_}
 use mathlib.Core.Bool.{Bool, true, false, cond, _&&_}
 use mathlib.Core.List.{List}
-use Prim.Native.Nat.{ℕ, zero, suc}
+use Prim.Native.Nat.{ℕ, zero, suc, _≤_}
 use native.Mathlib.Omega.{arith}
 use lib.Dec.{eqb, eqb·suc-zero}
-use lib.ListN.{length, replicate, length-replicate, getD}
+use lib.ListN.{length, take, replicate, length-replicate, getD}
+use lib.Seq.{length-take-le}
 use mir.Syntax.{w8}
 use mir.Val.{Fits}
 use borrow.Author.Tests.{eqb-true}
@@ -26,6 +27,7 @@ use Rattle.lowered.specs.Lowered.{Low, lowOf, lowIn, linesOf, firstOf, LoweredI
 use Rattle.lister.specs.Lists.{ready, Lists}
 use Rattle.lister.specs.Structured.{Lowers, Answers}
 use Rattle.lister.proofs.First.{Passes, by-first, none-refuses, all-bytes}
+use Rattle.lister.proofs.Structuring.{front-zeros}
 
 and-swap : (a b : Bool) → (a && b) ≡ (b && a)
 and-swap true true = refl
@@ -109,14 +111,22 @@ module _ (f : List ℕ) (bytes : (k : ℕ) → Fits w8 (getD f k 0)) (l d x : Li
     lines-are : lowOf w ls₁ ks₁ t₁ ≡ lowIn (length ls) (length ks) (length t) f 0
     lines-are = p .low ∙ ap (lowIn (length ls) (length ks) (length t) f) none
 
-    gives : Given (linesOf f) ls₁ ks₁ t₁ (U .keys) (U .offs) (w .lines)
-    unfolding edition1 linesOf lowIn
-    gives =
+    two-served : (1536 ≤ length (U .keys)) × (769 ≤ length (U .offs))
+    two-served =
         let k : length (U .keys) ≡ 7696 = as-long (length (T .keys)) (U .keys) keys-are ∙ tables-long .0 in
         let o : length (U .offs) ≡ 7696 = as-long (length (T .offs)) (U .offs) offs-are ∙ tables-long .1 in
-        subst (λ (v : Low). Given (linesOf f) (v .lines) (v .tokens) (v .text) (U .keys) (U .offs) (v .count)) (sym lines-are)
+        (omega (arith, k), omega (arith, o))
+
+    gives : Given (linesOf f) ls₁ ks₁ t₁ (take 1536 (U .keys)) (take 769 (U .offs)) (w .lines)
+    unfolding edition1 linesOf lowIn
+    gives =
+        let R = take 1536 (U .keys) in
+        let S = take 769 (U .offs) in
+        let k : length R ≡ 1536 = length-take-le 1536 (U .keys) (two-served .0) in
+        let o : length S ≡ 769 = length-take-le 769 (U .offs) (two-served .1) in
+        subst (λ (v : Low). Given (linesOf f) (v .lines) (v .tokens) (v .text) R S (v .count)) (sym lines-are)
         (given-file edition1 f (offsets (read edition1 f)) edition1-text (all-bytes f bytes) (file-passes .four) (file-passes .five) (file-passes .six) (file-passes .eighth)
-        (omega arith) (length ls) (length ks) (length t) (U .keys) (U .offs) (again (length (T .keys)) (U .keys) keys-are) (omega (arith, k)) (omega (arith, k)) (omega (arith, o)))
+        (omega arith) (length ls) (length ks) (length t) R S (front-zeros 1536 (U .keys) (again (length (T .keys)) (U .keys) keys-are)) (omega (arith, k)) (omega (arith, k)) (omega (arith, o)))
 
     lends : Lends (linesOf f) 1536 l₀ d₀ x₀
     unfolding edition1 linesOf
@@ -138,6 +148,7 @@ module _ (f : List ℕ) (bytes : (k : ℕ) → Fits w8 (getD f k 0)) (l d x : Li
     text = again (length x) x₀ (blank .2);
     rows = again (length (T .keys)) (U .keys) keys-are;
     spans = again (length (T .offs)) (U .offs) offs-are;
+    long = two-served;
     known = λ z. record { low = linesOf f; given = gives z };
   }
 

@@ -6,6 +6,12 @@ use lowered::Lowered;
 use structure::structure;
 ghost use Rattle.lister.specs.Structured.{Lowers, Answers};
 
+// What structuring needs: a row for each line and each conditional jump, and a span for each line and one more.
+// It empties all its spans after each region, so it is lent no more of them.
+const ROWS: usize = 1536;
+
+const SPANS: usize = 769;
+
 pub fn structured(
     lines: &mut [u64],
     tokens: &mut [u64],
@@ -29,8 +35,8 @@ pub fn structured(
         lines,
         tokens,
         text,
-        rows,
-        spans,
+        &mut rows[..ROWS],
+        &mut spans[..SPANS],
         from,
         lowered,
         source,

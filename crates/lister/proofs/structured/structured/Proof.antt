@@ -1,3 +1,5 @@
+use mathlib.Core.Path.{sym}
+use lib.Seq.{length-take-le}
 use Rattle.lister.proofs.Structuring.{refuses, finishes}
 use borrow.Author.Needs.{needs}
 use Rattle.lister.proofs.structured.structured.Statement.{statement}
@@ -8,6 +10,18 @@ refused-requires c κs = search needs
 
 returns : tie.Need-returns
 returns c = refuses _ _ _ _ _ _ _ _ _ (c .before .before .before .before .before .before .before .before .before .before .before .pre) _ (c .before .if1 .taken) (c .refused .ensures)
+
+slice-relend-prefix-structure : tie.Need-slice-relend-prefix-structure
+slice-relend-prefix-structure c = c .before .before .before .before .before .before .before .before .before .before .before .before .before .pre .long (c .before .before .before .if1 .left) .0
+
+slice-aggregate-structure : tie.Need-slice-aggregate-structure
+slice-aggregate-structure c = sym (length-take-le 1536 (c .before .before .before .before .before .before .before .before .before .before .before .before .before .before .args .rows .now) (c .before .before .before .before .before .before .before .before .before .before .before .before .before .before .pre .long (c .before .before .before .before .if1 .left) .0))
+
+slice-relend-prefix-structure-2 : tie.Need-slice-relend-prefix-structure-2
+slice-relend-prefix-structure-2 c = c .before .before .before .before .before .before .before .before .before .before .before .before .before .before .pre .long (c .before .before .before .before .if1 .left) .1
+
+slice-aggregate-structure-2 : tie.Need-slice-aggregate-structure-2
+slice-aggregate-structure-2 c = sym (length-take-le 769 (c .before .before .before .before .before .before .before .before .before .before .before .before .before .before .before .args .spans .now) (c .before .before .before .before .before .before .before .before .before .before .before .before .before .before .before .pre .long (c .before .before .before .before .before .if1 .left) .1))
 
 structure-requires : tie.Need-structure-requires
 structure-requires c κs = c .before .before .before .before .before .before .before .before .before .before .before .before .before .before .before .pre .known (c .before .before .before .before .before .if1 .left)
@@ -39,6 +53,10 @@ structured-spec =
     (tie.spec
     refused-requires
     returns
+    slice-relend-prefix-structure
+    slice-aggregate-structure
+    slice-relend-prefix-structure-2
+    slice-aggregate-structure-2
     structure-requires
     answer-of-requires
     same-length
