@@ -2,6 +2,7 @@
 
 use oracle::upstream::pseudo::PseudoLine;
 
+use crate::entry::Answer;
 use crate::sheet::{zeros, Sheet, LENT_LINES, LINES, ROW};
 use crate::{Line, Refusal};
 
@@ -28,17 +29,6 @@ extern "C" {
         source_len: usize,
         n: usize,
     ) -> u32;
-}
-
-/// What a listing reports.
-#[derive(Debug, Clone, Copy, PartialEq, Eq)]
-pub struct Counts {
-    pub lines: usize,
-    pub tokens: usize,
-    pub bytes: usize,
-    pub ifs: usize,
-    pub loops: usize,
-    pub tests: usize,
 }
 
 /// The buffers of the passes, kept between calls.
@@ -71,7 +61,7 @@ impl Passes {
     }
 
     /// The passes over the lines that were laid in, or refusal 9.
-    pub fn run(&mut self) -> Result<Counts, Refusal> {
+    pub fn run(&mut self) -> Result<Answer, Refusal> {
         let mut counts = [0; 6];
         // The slices are Rust's own, and the lines that were laid in are lowered ones.
         let answer = unsafe {
@@ -99,11 +89,11 @@ impl Passes {
         };
         Refusal::answered(answer)?;
         let [lines, tokens, bytes, ifs, loops, tests] = counts.map(|n| n as usize);
-        Ok(Counts { lines, tokens, bytes, ifs, loops, tests })
+        Ok(Answer { number: 0, lines, tokens, bytes, ifs, loops, tests })
     }
 
     /// The finished lines, if the buffers hold lines and zeros behind them.
-    pub fn finished(&self, c: Counts) -> Result<Vec<Line>, String> {
+    pub fn finished(&self, c: Answer) -> Result<Vec<Line>, String> {
         let lines = self.lent.read(c.lines)?;
         let counted = (lines.iter().map(|l| l.tokens.len()).sum(), lines.iter().map(Line::bytes).sum());
         match self.lent.ends_with(&lines) && (c.tokens, c.bytes) == counted {

@@ -1,8 +1,10 @@
 //! Upstream's lines as ours, and the first difference between the two.
 
+use oracle::list::Listing;
 use oracle::upstream::model;
 use oracle::upstream::pseudo::PseudoLine;
 
+use crate::entry::Answer;
 use crate::{Kind, Line, Token};
 
 impl From<&model::Token> for Token {
@@ -17,6 +19,13 @@ impl From<&PseudoLine> for Line {
     fn from(l: &PseudoLine) -> Line {
         Line { address: l.address, indent: l.indent, tokens: l.tokens.iter().map(Token::from).collect() }
     }
+}
+
+/// The answer that goes with upstream's listing.
+pub fn counted(l: &Listing) -> Answer {
+    let tokens = || l.lines.iter().flat_map(|x| &x.tokens);
+    let (lines, bytes) = (l.lines.len(), tokens().map(|t| t.t.len()).sum());
+    Answer { number: 0, lines, tokens: tokens().count(), bytes, ifs: l.ifs, loops: l.loops, tests: l.tests() }
 }
 
 /// The first line that differs from upstream's, if any: both of them.

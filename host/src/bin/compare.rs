@@ -9,7 +9,7 @@ use std::time::Duration;
 use host::entry::{Answer, Buffers};
 use host::runs::{ended, on_all_cores, Failure};
 use host::turns::{timed, Longest};
-use host::upstream::differing;
+use host::upstream::{counted, differing};
 use oracle::gen::{file, Profile};
 use oracle::list::{list, Listing};
 use oracle::refusal::Refusal;
@@ -78,11 +78,7 @@ fn same(buffers: &Buffers, answer: Answer, listing: &Result<Listing, Refusal>) -
 fn asked(listing: &Result<Listing, Refusal>) -> Answer {
     match listing {
         Err(r) => Answer { number: r.0.into(), lines: 0, tokens: 0, bytes: 0, ifs: 0, loops: 0, tests: 0 },
-        Ok(l) => {
-            let tokens = || l.lines.iter().flat_map(|x| &x.tokens);
-            let (lines, bytes) = (l.lines.len(), tokens().map(|t| t.t.len()).sum());
-            Answer { number: 0, lines, tokens: tokens().count(), bytes, ifs: l.ifs, loops: l.loops, tests: l.tests() }
-        }
+        Ok(l) => counted(l),
     }
 }
 

@@ -5,9 +5,9 @@
 use std::process::ExitCode;
 use std::time::{Duration, Instant};
 
-use host::passes::{Counts, Passes};
+use host::passes::Passes;
 use host::runs::{ended, through, Failure};
-use host::upstream::differing;
+use host::upstream::{counted, differing};
 use oracle::gen::{file, Profile};
 use oracle::list::{lowered, Listing};
 use oracle::upstream::ssa::c::structure;
@@ -53,13 +53,13 @@ fn one(passes: &mut Passes, tally: &mut Tally, profile: Profile, seed: u64) -> R
     match (&ours, &listing) {
         (Err(a), Err(b)) if a.number() == b.0 => tally.deep += 1,
         (Ok(counts), Ok(l)) => {
-            if *counts != counts_of(l) {
-                return Err(format!("ours {counts:?}, upstream {:?}", counts_of(l)));
+            if *counts != counted(l) {
+                return Err(format!("ours {counts:?}, upstream {:?}", counted(l)));
             }
             differing(&passes.finished(*counts)?, &l.lines)?;
             tally.regions += (l.ifs + l.loops) as u64;
         }
-        _ => return Err(format!("ours {ours:?}, upstream {:?}", listing.map(|l| counts_of(&l)))),
+        _ => return Err(format!("ours {ours:?}, upstream {:?}", listing.map(|l| counted(&l)))),
     }
     if !passes.is_clean(ours.is_err()) {
         return Err("the scratch is not zeros".into());
@@ -69,18 +69,6 @@ fn one(passes: &mut Passes, tally: &mut Tally, profile: Profile, seed: u64) -> R
     tally.theirs += end - middle;
     tally.worst = tally.worst.max((end - middle, middle - start, profile.name(), seed));
     Ok(())
-}
-
-fn counts_of(l: &Listing) -> Counts {
-    let tokens = || l.lines.iter().flat_map(|x| &x.tokens);
-    Counts {
-        lines: l.lines.len(),
-        tokens: tokens().count(),
-        bytes: tokens().map(|t| t.t.len()).sum(),
-        ifs: l.ifs,
-        loops: l.loops,
-        tests: l.tests(),
-    }
 }
 
 fn report(t: &Tally) -> String {
