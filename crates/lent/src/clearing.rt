@@ -1,26 +1,8 @@
 // Lent buffers emptied: zeros, whatever stood there.
+use zeros::clear_bytes;
+use zeros::clear_longs;
 ghost use mathlib.Core.Path.{_≡_};
 ghost use lib.ListN.{length, replicate};
-
-pub fn clear_bytes(bytes: &mut [u8])
-    ensures { λ _. ⌜ now (bytes .exit) ≡ replicate (length (now (bytes .entry))) 0 ⌝ }
-{
-    let mut at = 0;
-    while at < bytes.len() {
-        bytes[at] = 0;
-        at += 1;
-    }
-}
-
-pub fn clear_longs(numbers: &mut [u64])
-    ensures { λ _. ⌜ now (numbers .exit) ≡ replicate (length (now (numbers .entry))) 0 ⌝ }
-{
-    let mut i = 0;
-    while i < numbers.len() {
-        numbers[i] = 0;
-        i += 1;
-    }
-}
 
 // Lines, tokens and text.
 pub fn clear_sheet(lines: &mut [u64], tokens: &mut [u64], text: &mut [u8])

@@ -7,7 +7,7 @@ use native.Mathlib.Decide.{ℕ-discrete}
 use native.Mathlib.Omega.{arith}
 use lib.Dec.{eqb}
 use lib.ListN.{length, getD, set, replicate, length-set, length-replicate, getD-replicate}
-use lib.Seq.{getD-set-same, getD-set-other, set-out, ext-getD}
+use lib.Seq.{getD-set-same, getD-set-other, set-out}
 use borrow.Author.Tests.{eq-eqb, ne-eqb}
 use Rattle.definition.specs.Lists.{count, gather, range, allBelow}
 use Rattle.references.specs.Tally.{ownersAt, more, mentioned, tally}
@@ -131,18 +131,3 @@ tally-once m es n h = all-same _ _ n (λ e k.
     let b : e < length (replicate m 0) = omega (arith, length-replicate {A = ℕ} m 0) in
     ap (λ (x : ℕ). eqb x 1) (tally-at es (replicate m 0) e b ∙ ap (λ (x : ℕ). after x (count (eqb e) es)) (zero-entry m e l))
     ∙ once (count (eqb e) es))
-
--- ---- the table emptied
-pub clear-on : (t : List ℕ) (i : ℕ) → ((j : ℕ) → j < i → ownersAt t j ≡ 0) → i < length t → (j : ℕ) → j < i + 1 → ownersAt (set t i 0) j ≡ 0
-unfolding ownersAt
-clear-on t i h l j k = go (ℕ-discrete j i)
-  where
-    go : Dec (j ≡ i) → getD (set t i 0) j 0 ≡ 0
-    go (yes e) = rw e (getD-set-same t i 0 0 l)
-    go (no e) = getD-set-other t i j 0 0 e ∙ h j (omega arith)
-
-pub clear-end : (t u : List ℕ) (i : ℕ) → length t ≡ length u → length t ≤ i → ((j : ℕ) → j < i → ownersAt t j ≡ 0) → t ≡ replicate (length u) 0
-unfolding ownersAt
-clear-end t u i s l h =
-    ext-getD 0 t (replicate (length u) 0) (s ∙ sym (length-replicate (length u) 0))
-    (λ j k. h j (omega arith) ∙ sym (getD-replicate (length u) j 0 0 (omega arith)))

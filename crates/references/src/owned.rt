@@ -7,27 +7,17 @@ use records::contents::EXPRESSIONS;
 use records::contents::STATEMENTS;
 use records::contents::size_of;
 use records::owners::items_of;
+use zeros::clear_words;
 ghost use mathlib.Core.Path.{_≡_};
 ghost use Prim.Native.Nat.{_+_, _≤_, _<_};
 ghost use lib.Dec.{eqb};
-ghost use lib.ListN.{length, replicate};
+ghost use lib.ListN.{length};
 ghost use Rattle.definition.specs.Edition.{statements, expressions};
 ghost use Rattle.definition.specs.Contents.{size};
 ghost use Rattle.definition.specs.Lists.{gather, range, allBelow};
 ghost use Rattle.definition.specs.Owners.{exprItems, firstItem};
 ghost use Rattle.definition.specs.References.{roots, children, ownedOnce};
 ghost use Rattle.references.specs.Tally.{ownersAt, more, mentioned, tally, Answered};
-
-// All zeros, whatever stood there.
-pub fn clear(table: &mut [u32])
-    ensures { λ _. ⌜ now (table .exit) ≡ replicate (length (now (table .entry))) 0 ⌝ }
-{
-    let mut i = 0;
-    while i < table.len() {
-        table[i] = 0;
-        i += 1;
-    }
-}
 
 // One owner more; 2 says more than one, so that it never overflows.
 fn one_more(x: u32) -> u32
@@ -120,10 +110,10 @@ pub fn owned_once(table: &mut [u32], f: &[u8]) -> bool
     requires { ⌜ size (now f) expressions ≤ length (now table) ⌝ }
     ensures { λ r. ⌜ Answered (ownedOnce (now (f .entry))) r (now (table .entry)) (now (table .exit)) ⌝ }
 {
-    clear(table);
+    clear_words(table);
     tally_statements(table, f);
     tally_expressions(table, f);
     let once = all_once(table, size_of(f, EXPRESSIONS));
-    clear(table);
+    clear_words(table);
     once
 }

@@ -4,8 +4,8 @@ use borrow.Author.Needs.{needs}
 use Rattle.references.proofs.owned.owned_once.Statement.{statement}
 use Rattle.references.proofs.owned.owned_once.Tie as tie
 
-clear-requires : tie.Need-clear-requires
-clear-requires c κs = search needs
+clear-words-requires : tie.Need-clear-words-requires
+clear-words-requires c κs = search needs
 
 tally-statements-requires : tie.Need-tally-statements-requires
 tally-statements-requires c κs = search needs
@@ -19,24 +19,24 @@ size-of-requires c κs = search needs
 all-once-requires : tie.Need-all-once-requires
 all-once-requires c κs = search needs
 
-clear-requires-2 : tie.Need-clear-requires-2
-clear-requires-2 c κs = search needs
+clear-words-requires-2 : tie.Need-clear-words-requires-2
+clear-words-requires-2 c κs = search needs
 
 same-length : tie.Need-same-length
 same-length c = search needs
 
 returns : tie.Need-returns
-returns c = once-answer _ _ _ _ _ _ _ _ (c .before .before .before .before .before .before .before .before .before .before .before .before .before .before .before .before .before .clear .ensures) (c .before .before .before .before .before .before .before .before .before .before .before .before .before .tally-statements .ensures) (c .before .before .before .before .before .before .before .before .before .tally-expressions .ensures) (c .before .before .before .before .before .size-of .ensures) (omega (arith, c .before .before .before .before .before .before .before .before .before .before .before .before .before .before .before .before .before .before .before .before .before .pre .1, c .before .before .before .before .before .size-of .ensures)) (c .before .before .before .before .all-once .ensures) (c .before .before .clear2 .ensures)
+returns c = once-answer _ _ _ _ _ _ _ _ (c .before .before .before .before .before .before .before .before .before .before .before .before .before .before .before .before .before .clear-words .ensures) (c .before .before .before .before .before .before .before .before .before .before .before .before .before .tally-statements .ensures) (c .before .before .before .before .before .before .before .before .before .tally-expressions .ensures) (c .before .before .before .before .before .size-of .ensures) (omega (arith, c .before .before .before .before .before .before .before .before .before .before .before .before .before .before .before .before .before .before .before .before .before .pre .1, c .before .before .before .before .before .size-of .ensures)) (c .before .before .before .before .all-once .ensures) (c .before .before .clear-words2 .ensures)
 
 pub owned-once-spec : {M : Type 1} → statement M
 owned-once-spec =
     tie.close
     (tie.spec
-    clear-requires
+    clear-words-requires
     tally-statements-requires
     tally-expressions-requires
     size-of-requires
     all-once-requires
-    clear-requires-2
+    clear-words-requires-2
     same-length
     returns)
