@@ -1,9 +1,8 @@
 -- Each return of the reader: the checks before it have passed, its own has not, and the scratch is zeros since it was cleared.
 use mathlib.Core.Path.{_≡_, refl, sym, ap, subst, _∙_}
-use mathlib.Core.Bool.{Bool, true, false, _||_}
+use mathlib.Core.Bool.{Bool, true, false, true≢false, _||_}
 use mathlib.Core.List.{List}
 use Prim.Native.Nat.{ℕ, _+_, _≤_}
-use native.Mathlib.Omega.{arith}
 use lib.Dec.{ltb}
 use lib.ListN.{length, replicate, length-replicate}
 use borrow.Author.Tests.{eq-eqb, ne-eqb, ltb-false}
@@ -20,10 +19,7 @@ pub seen : (g : Edition → List ℕ → Bool) (E : Edition) (f : List ℕ) (b v
 seen g E f b v e p q = subst (λ (D : Edition). g D f ≡ v) e (sym p ∙ q)
 
 or-right : (a b : Bool) → (a || b) ≡ false → b ≡ false
-or-right true b h = absurd (true-false h)
-  where
-    true-false : true ≡ false → ⊥
-    true-false e = let z : _≡_ {A = ℕ} 0 1 = cc in omega arith
+or-right true b h = absurd (true≢false h)
 or-right false b h = h
 
 -- a file that passes 3 has few expressions
@@ -95,3 +91,7 @@ module _ (f : List ℕ) where
 
   pub untouched : (t u : List ℕ) → u ≡ replicate (length t) 0 → u ≡ replicate (length u) 0
   untouched t u e = e ∙ ap (λ (m : ℕ). replicate m 0) (sym (ap length e ∙ length-replicate (length t) 0))
+
+  -- and zeros again behind a second check
+  pub zeros-again : (t u v : List ℕ) → u ≡ replicate (length t) 0 → v ≡ replicate (length u) 0 → v ≡ replicate (length t) 0
+  zeros-again t u v e h = h ∙ ap (λ (m : ℕ). replicate m 0) (ap length e ∙ length-replicate (length t) 0)

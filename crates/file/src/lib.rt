@@ -1,11 +1,11 @@
 // The reader: checks 2 to 6 in order over a lent file, and its exported form.
 use meaning::meaning::refused6;
 use records::edition::Edition;
-use references::owned::clear;
 use references::references::refused5;
 use shape::limits::refused2;
 use shape::limits::refused3;
 use shape::shape::refused4;
+use zeros::clear_words;
 ghost use mathlib.Core.Path.{_≡_};
 ghost use Rattle.file.specs.Verdicts.{numberOf, Judged, Checked};
 
@@ -27,7 +27,7 @@ pub const OWNERS: usize = 2048;
 pub fn check_file(f: &[u8], owners: &mut [u32]) -> Verdict
     ensures { λ r. ⌜ Judged (now (f .entry)) r (now (owners .entry)) (now (owners .exit)) ⌝ }
 {
-    clear(owners);
+    clear_words(owners);
     if owners.len() != OWNERS {
         return Verdict::Lent;
     }
@@ -44,7 +44,7 @@ pub fn check_file(f: &[u8], owners: &mut [u32]) -> Verdict
     if refused5(e, f, owners) {
         return Verdict::References;
     }
-    if refused6(e, f) {
+    if refused6(e, f, owners) {
         return Verdict::Meaning;
     }
     Verdict::Sound

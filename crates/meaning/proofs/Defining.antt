@@ -16,7 +16,8 @@ use Rattle.meaning.specs.declared.value.Value.{Value as CValue}
 use Rattle.meaning.specs.declared.value.Defined.{Defined}
 use Rattle.meaning.specs.declared.value.Defined.the-variants.{Nothing, One}
 use Rattle.meaning.specs.Defined.{valueOf, listOf, lone, itemValue, firstValue, hit, phiHits, itemHits, stmtHits, hits}
-use Rattle.meaning.proofs.Ranges.{all-one, all-map, all-gather, count-append, count-map, count-gather}
+use Rattle.definition.proofs.ListLaws.{count-append}
+use Rattle.meaning.proofs.Ranges.{all-one, all-map, all-gather, count-map, count-gather}
 use Rattle.records.proofs.Below.{sum-add, sum-same}
 
 -- ---- one value against another

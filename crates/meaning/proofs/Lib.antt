@@ -1,7 +1,11 @@
 pub mod Ranges
 pub mod Values
+pub mod Tested
 pub mod RegistersNamed
 pub mod Apart
 pub mod Defining
+pub mod Bits
+pub mod Taking
+pub mod Alone
 pub mod Refusing
 pub mod Unique

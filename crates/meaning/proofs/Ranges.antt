@@ -1,36 +1,14 @@
 -- Lists that run over the numbers below n, as tests and sums over these numbers.
 use mathlib.Core.Path.{_≡_, refl, sym, ap, ap₂, _∙_}
 use mathlib.Core.Bool.{Bool, true, false, not, cond, _&&_, _||_, and-true, and-assoc}
-use mathlib.Core.List.{List, [], _∷_, _++_, map, append-nil, append-assoc, map-append}
+use mathlib.Core.List.{List, [], _∷_, _++_, map, map-append}
 use Prim.Native.Nat.{ℕ, zero, suc, _+_}
-use native.Mathlib.Decide.{ℕ-discrete}
-use native.Mathlib.Omega.{arith}
 use lib.Dec.{eqb}
-use borrow.Author.Tests.{eq-eqb, ne-eqb}
+use Rattle.definition.proofs.Bools.{eqb-swap}
+use Rattle.definition.proofs.ListLaws.{count-append}
 use Rattle.records.proofs.Also.{and-cross}
+use Rattle.records.proofs.Ranges.{range-last, gather-last}
 use Rattle.definition.specs.Lists.{all, any, count, gather, range, allBelow, sumBelow, among, distinct}
-
--- the last number of a range
-range-more : (a n : ℕ) → range a (suc n) ≡ range a n ++ ((a + n) ∷ [])
-unfolding range
-range-more a zero = let k : a + 0 ≡ a = omega arith in rw k
-range-more a (suc n) =
-    let k : a + suc n ≡ a + 1 + n = omega arith in
-    rw (k, range-more (a + 1) n)
-
-range-last : (n : ℕ) → range 0 (suc n) ≡ range 0 n ++ (n ∷ [])
-range-last n = let k : 0 + n ≡ n = omega arith in range-more 0 n ∙ ap (λ (m : ℕ). range 0 n ++ (m ∷ [])) k
-
-module _ {A : Type 0} (g : ℕ → List A) where
-  gather-append : (xs ys : List ℕ) → gather g (xs ++ ys) ≡ gather g xs ++ gather g ys
-  unfolding gather
-  gather-append [] ys = refl
-  gather-append (x ∷ xs) ys = rw (gather-append xs ys) (sym (simp append-assoc))
-
-  gather-last : (n : ℕ) → gather g (range 0 (suc n)) ≡ gather g (range 0 n) ++ g n
-  unfolding gather
-  gather-last n =
-      ap (gather g) (range-last n) ∙ gather-append (range 0 n) (n ∷ []) ∙ ap (λ (l : List A). gather g (range 0 n) ++ l) (append-nil (g n))
 
 module _ {A : Type 0} (g : ℕ → A) where
   map-last : (n : ℕ) → map g (range 0 (suc n)) ≡ map g (range 0 n) ++ (g n ∷ [])
@@ -45,16 +23,6 @@ module _ {A : Type 0} (p : A → Bool) where
   pub all-one : (x : A) → all p (x ∷ []) ≡ p x
   unfolding all
   all-one x = and-true (p x)
-
-  pub count-append : (xs ys : List A) → count p (xs ++ ys) ≡ count p xs + count p ys
-  unfolding count
-  count-append [] ys = omega arith
-  count-append (x ∷ xs) ys = go (p x) (count-append xs ys)
-    where
-      go : (b : Bool) → count p (xs ++ ys) ≡ count p xs + count p ys
-          → cond b (suc (count p (xs ++ ys))) (count p (xs ++ ys)) ≡ cond b (suc (count p xs)) (count p xs) + count p ys
-      go true e = omega arith
-      go false e = e
 
   pub all-map : (g : ℕ → A) (n : ℕ) → all p (map g (range 0 n)) ≡ allBelow n (λ i. p (g i))
   unfolding allBelow all range
@@ -71,13 +39,13 @@ module _ {A : Type 0} (p : A → Bool) where
   unfolding sumBelow count range
   count-map g zero = refl
   count-map g (suc n) =
-      ap (count p) (map-last g n) ∙ count-append (map g (range 0 n)) (g n ∷ []) ∙ ap (λ (m : ℕ). m + cond (p (g n)) 1 0) (count-map g n)
+      ap (count p) (map-last g n) ∙ count-append p (map g (range 0 n)) (g n ∷ []) ∙ ap (λ (m : ℕ). m + cond (p (g n)) 1 0) (count-map g n)
 
   pub count-gather : (g : ℕ → List A) (n : ℕ) → count p (gather g (range 0 n)) ≡ sumBelow n (λ i. count p (g i))
   unfolding sumBelow count range gather
   count-gather g zero = refl
   count-gather g (suc n) =
-      ap (count p) (gather-last g n) ∙ count-append (gather g (range 0 n)) (g n) ∙ ap (λ (m : ℕ). m + count p (g n)) (count-gather g n)
+      ap (count p) (gather-last g n) ∙ count-append p (gather g (range 0 n)) (g n) ∙ ap (λ (m : ℕ). m + count p (g n)) (count-gather g n)
 
 -- ---- no number twice
 not-or : (a b : Bool) → not (a || b) ≡ (not a && not b)
@@ -94,20 +62,13 @@ among-append x [] y = go (eqb x y)
 among-append x (z ∷ xs) y =
     not-or (eqb x z) (among x (xs ++ (y ∷ []))) ∙ rw (among-append x xs y) (sym (ap (λ (b : Bool). b && not (eqb x y)) (not-or (eqb x z) (among x xs)) ∙ and-assoc (not (eqb x z)) (not (among x xs)) (not (eqb x y))))
 
-eqb-sym : (x y : ℕ) → eqb x y ≡ eqb y x
-eqb-sym x y = go (ℕ-discrete x y)
-  where
-    go : Dec (x ≡ y) → eqb x y ≡ eqb y x
-    go (yes e) = eq-eqb x y e ∙ sym (eq-eqb y x (sym e))
-    go (no e) = ne-eqb x y e ∙ sym (ne-eqb y x (λ h. e (sym h)))
-
 distinct-append : (xs : List ℕ) (y : ℕ) → distinct (xs ++ (y ∷ [])) ≡ (distinct xs && not (among y xs))
 unfolding distinct among any
 distinct-append [] y = refl
 distinct-append (x ∷ xs) y =
     ap₂ (λ (a b : Bool). a && b) (among-append x xs y) (distinct-append xs y)
     ∙ and-cross (not (among x xs)) (not (eqb x y)) (distinct xs) (not (among y xs))
-    ∙ sym (ap (λ (b : Bool). not (among x xs) && distinct xs && b) (not-or (eqb y x) (among y xs) ∙ ap (λ (b : Bool). not b && not (among y xs)) (eqb-sym y x)))
+    ∙ sym (ap (λ (b : Bool). not (among x xs) && distinct xs && b) (not-or (eqb y x) (among y xs) ∙ ap (λ (b : Bool). not b && not (among y xs)) (eqb-swap y x)))
 
 pub among-below : (x : ℕ) (g : ℕ → ℕ) (n : ℕ) → not (among x (map g (range 0 n))) ≡ allBelow n (λ j. not (eqb x (g j)))
 unfolding allBelow range among any

@@ -14,7 +14,8 @@ use Rattle.definition.specs.Contents.{size, offset, text, textAt}
 use Rattle.definition.specs.Owners.{stmtKind, stmtField}
 use Rattle.definition.specs.Values.{RSP}
 use Rattle.definition.specs.Meaning.{bits, argRegs, starts, rising, definedOnce, registers, targeted, refused6}
-use Rattle.records.proofs.Also.{also}
+use Rattle.records.proofs.Also.{also, also-stop, also-go}
+use Rattle.meaning.specs.Parts.{restSound}
 
 pub bits-are : (f : List ℕ) (n : ℕ) → n ≡ word f 4 → n ≡ bits f
 unfolding bits
@@ -64,29 +65,42 @@ module _ (E : Edition) (f : List ℕ) (i k : ℕ) (kind : k ≡ stmtKind f i) wh
     unfolding targeted
     target-args w u h e g = rw (← kind, eq-eqb k 3 call, opening, h, ← e) g
 
--- the tests in order
+-- the tests in order, but for what is defined once
 abbrev pub sound : Edition → List ℕ → Bool
 sound E f =
     also (eqb (bits f) 32 || eqb (bits f) 64) (also (registers f) (also (distinct (argRegs f)) (also (not (among RSP (argRegs f)))
-    (also (distinct (starts f)) (also (rising f) (also (definedOnce f) (allBelow (size f statements) (targeted E f))))))))
+    (also (distinct (starts f)) (also (rising f) (allBelow (size f statements) (targeted E f)))))))
 
-pub sound-is : (E : Edition) (f : List ℕ) → not (sound E f) ≡ refused6 E f
-unfolding refused6 also
-sound-is E f =
-    ap not (go (eqb (bits f) 32 || eqb (bits f) 64) (registers f) (distinct (argRegs f)) (not (among RSP (argRegs f))) (distinct (starts f))
-    (rising f) (definedOnce f) (allBelow (size f statements) (targeted E f)))
+pub rest-is : (E : Edition) (f : List ℕ) (t : Bool) → t ≡ sound E f → t ≡ restSound E f
+unfolding restSound also
+rest-is E f t e =
+    e ∙ go (eqb (bits f) 32 || eqb (bits f) 64) (registers f) (distinct (argRegs f)) (not (among RSP (argRegs f))) (distinct (starts f))
+    (rising f) (allBelow (size f statements) (targeted E f))
   where
-    go : (a b c d e g h i : Bool) → (a && (b && (c && (d && (e && (g && (h && i))))))) ≡ (a && b && c && d && e && g && h && i)
-    go false b c d e g h i = refl
-    go true false c d e g h i = refl
-    go true true false d e g h i = refl
-    go true true true false e g h i = refl
-    go true true true true false g h i = refl
-    go true true true true true false h i = refl
-    go true true true true true true h i = refl
+    go : (a b c d e g h : Bool) → (a && (b && (c && (d && (e && (g && h)))))) ≡ (a && b && c && d && e && g && h)
+    go false b c d e g h = refl
+    go true false c d e g h = refl
+    go true true false d e g h = refl
+    go true true true false e g h = refl
+    go true true true true false g h = refl
+    go true true true true true g h = refl
 
-pub refuse : (E : Edition) (f : List ℕ) → false ≡ sound E f → true ≡ refused6 E f
-refuse E f e = ap not e ∙ sound-is E f
+-- with what is defined once behind them
+whole-is : (E : Edition) (f : List ℕ) → not (also (restSound E f) (definedOnce f)) ≡ refused6 E f
+unfolding restSound refused6 also
+whole-is E f = ap not (go ((eqb (bits f) 32 || eqb (bits f) 64) && registers f && distinct (argRegs f) && not (among RSP (argRegs f)) && distinct (starts f) && rising f)
+    (allBelow (size f statements) (targeted E f)) (definedOnce f))
+  where
+    go : (a b c : Bool) → (a && b && c) ≡ (a && c && b)
+    go true true true = refl
+    go true true false = refl
+    go true false true = refl
+    go true false false = refl
+    go false b c = refl
 
-pub last : (E : Edition) (f : List ℕ) (t : Bool) → t ≡ sound E f → not t ≡ refused6 E f
-last E f t e = ap not e ∙ sound-is E f
+module _ (E : Edition) (f : List ℕ) (t : Bool) (says : t ≡ restSound E f) where
+  pub refuse : not t ≡ true → true ≡ refused6 E f
+  refuse h = ap not (also-stop (definedOnce f) says h) ∙ whole-is E f
+
+  pub last : (u : Bool) → not t ≡ false → u ≡ definedOnce f → not u ≡ refused6 E f
+  last u h e = ap not (also-go says h e) ∙ whole-is E f

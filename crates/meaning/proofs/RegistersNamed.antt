@@ -1,21 +1,17 @@
 -- The registers that the file names, section by section.
-use mathlib.Core.Path.{_≡_, refl, sym, ap, ap₂, _∙_}
-use mathlib.Core.Bool.{Bool, true, false, not, _&&_}
+use mathlib.Core.Path.{_≡_, refl, ap, _∙_}
+use mathlib.Core.Bool.{Bool, true, false, _&&_}
 use mathlib.Core.List.{List, _++_, map}
-use Prim.Native.Nat.{ℕ, _+_}
+use Prim.Native.Nat.{ℕ}
 use borrow.Author.Tests.{eq-eqb, ne-eqb}
 use Rattle.definition.specs.Edition.{args, phis, statements, expressions}
 use Rattle.definition.specs.Lists.{all, gather, range, allBelow}
 use Rattle.definition.specs.Contents.{size, argAt, exprWord}
-use Rattle.definition.specs.Owners.{exprItems, valueItems, firstItem}
-use Rattle.definition.specs.Values.{Value}
 use Rattle.definition.specs.Meaning.{isRegister, argRegs, phiValue, assigned, callReturns, itemValues, strict, loose, useRegister, registers}
-use Rattle.meaning.specs.Defined.{valueOf, listOf, named, itemValue, firstValue}
-use Rattle.meaning.specs.declared.value.Value.{Value as CValue}
-use Rattle.meaning.specs.declared.value.Defined.{Defined}
-use Rattle.meaning.specs.declared.value.Defined.the-variants.{Nothing, One}
-use Rattle.records.proofs.Also.{also, also-stop, also-go}
-use Rattle.meaning.proofs.Ranges.{all-append, all-one, all-map, all-gather}
+use Rattle.meaning.specs.Defined.{named}
+use Rattle.records.proofs.Also.{also}
+use Rattle.meaning.proofs.Ranges.{all-map, all-gather}
+use Rattle.meaning.proofs.Tested.{loose-all}
 
 module _ (f : List ℕ) where
   abbrev pub argNamed : ℕ → Bool
@@ -41,40 +37,7 @@ module _ (f : List ℕ) where
   assigns-named = all-gather named (assigned f) (size f statements)
 
   pub loose-named : all named (loose f) ≡ allBelow (size f statements) looseNamed
-  unfolding loose
-  loose-named = all-gather named (λ i. callReturns f i ++ itemValues f i) (size f statements)
-
-  -- what phis and Assigns define, whatever is tested
-  module _ (p : Value → Bool) (t : Bool) (says : t ≡ all p (map (phiValue f) (range 0 (size f phis)))) where
-    pub strict-stop : not t ≡ true → false ≡ all p (strict f)
-    unfolding strict also
-    strict-stop h =
-        also-stop (all p (gather (assigned f) (range 0 (size f statements)))) says h
-        ∙ sym (all-append p (map (phiValue f) (range 0 (size f phis))) (gather (assigned f) (range 0 (size f statements))))
-
-    pub strict-go : (u : Bool) → not t ≡ false → u ≡ all p (gather (assigned f) (range 0 (size f statements))) → u ≡ all p (strict f)
-    unfolding strict also
-    strict-go u h e =
-        also-go says h e
-        ∙ sym (all-append p (map (phiValue f) (range 0 (size f phis))) (gather (assigned f) (range 0 (size f statements))))
-
-  -- the items of statement i
-  items-named : (i : ℕ) → all named (itemValues f i) ≡ allBelow (valueItems f i) (λ k. named (itemValue f (firstValue f i + k)))
-  unfolding itemValues itemValue firstValue
-  items-named i = all-map named (λ k. itemValue f (firstValue f i + k)) (valueItems f i)
-
-  module _ (i : ℕ) (t : Bool) (says : t ≡ all named (callReturns f i)) where
-    pub loose-stop : not t ≡ true → false ≡ looseNamed i
-    unfolding also
-    loose-stop h = also-stop (all named (itemValues f i)) says h ∙ sym (all-append named (callReturns f i) (itemValues f i))
-
-    pub loose-go : (u : Bool) (at x n : ℕ) → not t ≡ false → at ≡ firstItem f i → x ≡ exprItems f i → n ≡ valueItems f i
-        → u ≡ allBelow n (λ k. named (itemValue f (at + x + k))) → u ≡ looseNamed i
-    unfolding firstValue also
-    loose-go u at x n h a b c e =
-        also-go says h
-        (e ∙ ap₂ (λ (m n : ℕ). allBelow n (λ k. named (itemValue f (m + k)))) (ap₂ (λ (m n : ℕ). m + n) a b) c ∙ sym (items-named i))
-        ∙ sym (all-append named (callReturns f i) (itemValues f i))
+  loose-named = loose-all f named
 
   -- an expression whose tag w was read
   pub use-not : (i w : ℕ) → w ≡ exprWord f i 0 → (w ≡ 2 → ⊥) → true ≡ useRegister f i
@@ -94,11 +57,3 @@ module _ (f : List ℕ) where
       go false b c d = refl
       go true false c d = refl
       go true true c d = refl
-
--- what a statement defines by its own fields
-pub none-named : (d : Defined) → d ≡ Nothing → true ≡ all named (listOf d)
-unfolding all
-none-named d e = rw e
-
-pub one-named : (d : Defined) (v : CValue) (t : Bool) → d ≡ One v → t ≡ isRegister (v .reg) → t ≡ all named (listOf d)
-one-named d v t e h = rw e (h ∙ sym (all-one named (valueOf v)))

@@ -3,6 +3,7 @@ use mathlib.Core.Path.{_≡_, refl, sym, ap, _∙_}
 use mathlib.Core.Bool.{Bool, not}
 use mathlib.Core.List.{List}
 use Prim.Native.Nat.{ℕ, _+_}
+use lib.ListN.{replicate}
 use Rattle.definition.specs.Lists.{among, distinct}
 use Rattle.definition.specs.Owners.{firstItem}
 use Rattle.definition.specs.Values.{Value as DValue, RSP, eqv}
@@ -64,8 +65,13 @@ module _ (f : List ℕ) (r s : Bool) where
   pub names-rise : r ≡ rising f → s ≡ rising f → r ≡ s
   names-rise p q = p ∙ sym q
 
-  pub defined-once : r ≡ definedOnce f → s ≡ definedOnce f → r ≡ s
-  defined-once p q = p ∙ sym q
+  pub scan-once : r ≡ definedOnce f → s ≡ definedOnce f → r ≡ s
+  scan-once p q = p ∙ sym q
 
-pub check-6 : (e : Edition) (f : List ℕ) (r s : Bool) → r ≡ refused6 (editionOf e) f → s ≡ refused6 (editionOf e) f → r ≡ s
-check-6 e f r s p q = p ∙ sym q
+-- with the scratch at exit, u or v
+module _ (n : ℕ) (f u v : List ℕ) (r s : Bool) where
+  pub defined-once : (r ≡ definedOnce f) × (u ≡ replicate n 0) → (s ≡ definedOnce f) × (v ≡ replicate n 0) → (r ≡ s) × (u ≡ v)
+  defined-once p q = (p .0 ∙ sym (q .0), p .1 ∙ sym (q .1))
+
+  pub check-6 : (e : Edition) → (r ≡ refused6 (editionOf e) f) × (u ≡ replicate n 0) → (s ≡ refused6 (editionOf e) f) × (v ≡ replicate n 0) → (r ≡ s) × (u ≡ v)
+  check-6 e p q = (p .0 ∙ sym (q .0), p .1 ∙ sym (q .1))

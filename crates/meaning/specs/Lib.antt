@@ -1,1 +1,3 @@
 pub mod Defined
+pub mod Slots
+pub mod Parts

@@ -3,4 +3,5 @@ pub mod distinct;
 pub mod meaning;
 pub mod once;
 pub mod registers_named;
+pub mod slots;
 pub mod value;

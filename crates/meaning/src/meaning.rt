@@ -3,8 +3,8 @@ use crate::distinct::args_distinct;
 use crate::distinct::args_spare_rsp;
 use crate::distinct::names_rise;
 use crate::distinct::starts_distinct;
-use crate::once::defined_once;
 use crate::registers_named::registers_named;
+use crate::slots::defined_once;
 use records::contents::STATEMENTS;
 use records::contents::offset_of;
 use records::contents::size_of;
@@ -17,6 +17,7 @@ use words::word_at;
 ghost use mathlib.Core.Path.{_≡_};
 ghost use mathlib.Core.Bool.{true, _||_};
 ghost use lib.Dec.{eqb};
+ghost use lib.ListN.{length, replicate};
 ghost use Rattle.definition.specs.Edition.{statements};
 ghost use Rattle.definition.specs.Lists.{allBelow};
 ghost use Rattle.definition.specs.Texts.{txt, begins};
@@ -24,6 +25,7 @@ ghost use Rattle.definition.specs.Contents.{size, textAt};
 ghost use Rattle.definition.specs.Shape.{owned};
 ghost use Rattle.definition.specs.Meaning.{bits, targeted, refused6 as isRefused6};
 ghost use Rattle.records.specs.Editions.{editionOf};
+ghost use Rattle.meaning.specs.Parts.{restSound};
 
 // The bits of the function.
 pub fn bits_of(f: &[u8]) -> u32
@@ -78,30 +80,40 @@ fn calls_targeted(e: Edition, f: &[u8]) -> bool
     true
 }
 
-pub fn refused6(e: Edition, f: &[u8]) -> bool
+// All of check 6 but what is defined once.
+fn rest_sound(e: Edition, f: &[u8]) -> bool
     requires { ⌜ owned (now f) ≡ true ⌝ }
-    ensures { λ r. ⌜ r ≡ isRefused6 (editionOf e) (now (f .entry)) ⌝ }
+    ensures { λ r. ⌜ r ≡ restSound (editionOf e) (now (f .entry)) ⌝ }
 {
     if !bits_known(f) {
-        return true;
+        return false;
     }
     if !registers_named(f) {
-        return true;
+        return false;
     }
     if !args_distinct(f) {
-        return true;
+        return false;
     }
     if !args_spare_rsp(f) {
-        return true;
+        return false;
     }
     if !starts_distinct(f) {
-        return true;
+        return false;
     }
     if !names_rise(f) {
+        return false;
+    }
+    calls_targeted(e, f)
+}
+
+// The scratch begins and ends as zeros.
+pub fn refused6(e: Edition, f: &[u8], scratch: &mut [u32]) -> bool
+    requires { ⌜ owned (now f) ≡ true ⌝ }
+    requires { ⌜ now scratch ≡ replicate (length (now scratch)) 0 ⌝ }
+    ensures { λ r. ⌜ (r ≡ isRefused6 (editionOf e) (now (f .entry))) × (now (scratch .exit) ≡ replicate (length (now (scratch .entry))) 0) ⌝ }
+{
+    if !rest_sound(e, f) {
         return true;
     }
-    if !defined_once(f) {
-        return true;
-    }
-    !calls_targeted(e, f)
+    !defined_once(scratch, f)
 }

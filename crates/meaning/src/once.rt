@@ -1,4 +1,4 @@
-// What a phi or an Assign defines has a version above 0 and is defined nowhere else.
+// The exact scan: what a phi or an Assign defines has a version above 0 and is defined nowhere else.
 use crate::value::Defined;
 use crate::value::Value;
 use crate::value::assigned_by;
@@ -98,7 +98,7 @@ fn stmts_hits(f: &[u8], v: Value) -> u64
     sum
 }
 
-// Counts every place that defines v. Quadratic over the file; the contract leaves a faster way open.
+// Counts every place that defines v.
 fn is_lone(f: &[u8], v: Value) -> bool
     requires { ⌜ owned (now f) ≡ true ⌝ }
     ensures { λ r. ⌜ r ≡ lone (now (f .entry)) (valueOf v) ⌝ }
@@ -150,7 +150,8 @@ fn assigns_lone(f: &[u8]) -> bool
     true
 }
 
-pub fn defined_once(f: &[u8]) -> bool
+// Quadratic over the file: it decides only where slots do not tell.
+pub fn scan_once(f: &[u8]) -> bool
     requires { ⌜ owned (now f) ≡ true ⌝ }
     ensures { λ r. ⌜ r ≡ definedOnce (now (f .entry)) ⌝ }
 {

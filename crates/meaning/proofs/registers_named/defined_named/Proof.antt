@@ -1,5 +1,6 @@
 use borrow.Author.Needs.{needs}
-use Rattle.meaning.proofs.RegistersNamed.{none-named, one-named}
+use Rattle.meaning.specs.Defined.{named}
+use Rattle.meaning.proofs.Tested.{none-all, one-all}
 use Rattle.meaning.proofs.registers_named.defined_named.Statement.{statement}
 use Rattle.meaning.proofs.registers_named.defined_named.Tie as tie
 
@@ -13,10 +14,10 @@ is-register-requires : tie.Need-is-register-requires
 is-register-requires c κs = search needs
 
 returns : tie.Need-returns
-returns c = none-named (c .before .before .args .d) (cc)
+returns c = none-all named (c .before .before .args .d) (cc)
 
 returns-2 : tie.Need-returns-2
-returns-2 c = one-named (c .before .before .before .before .args .d) (c .before .before .d .given .0 .0) _ (cc) (c .is-register .ensures)
+returns-2 c = one-all named (c .before .before .before .before .args .d) (c .before .before .d .given .0 .0) _ (cc) (c .is-register .ensures)
 
 pub defined-named-spec : {M : Type 1} → statement M
 defined-named-spec =

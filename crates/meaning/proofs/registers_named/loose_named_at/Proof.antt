@@ -4,7 +4,7 @@ use borrow.Author.Needs.{needs}
 use Rattle.definition.specs.Lists.{all}
 use Rattle.meaning.specs.Defined.{named}
 use Rattle.meaning.proofs.Values.{exprs-small, items-small}
-use Rattle.meaning.proofs.RegistersNamed.{loose-stop, loose-go}
+use Rattle.meaning.proofs.Tested.{loose-stop, loose-go}
 use Rattle.meaning.proofs.registers_named.loose_named_at.Statement.{statement}
 use Rattle.meaning.proofs.registers_named.loose_named_at.Tie as tie
 
@@ -15,7 +15,7 @@ defined-named-requires : tie.Need-defined-named-requires
 defined-named-requires c κs = search needs
 
 returns : tie.Need-returns
-returns c = loose-stop _ _ _ (c .before .defined-named .ensures ∙ ap (all named) (c .before .before .returned-by .ensures)) (c .if1 .taken)
+returns c = loose-stop _ named _ _ (c .before .defined-named .ensures ∙ ap (all named) (c .before .before .returned-by .ensures)) (c .if1 .taken)
 
 expr-items-requires : tie.Need-expr-items-requires
 expr-items-requires c κs = search needs
@@ -30,7 +30,7 @@ items-named-requires : tie.Need-items-named-requires
 items-named-requires c κs = items-small _ _ _ _ (c .before .before .before .before .before .shared-slice-known .given) (c .before .before .before .before .before .before .pre) (c .before .expr-items .ensures) _ (c .value-items .ensures)
 
 returns-2 : tie.Need-returns-2
-returns-2 c = loose-go _ _ _ (c .before .before .before .before .defined-named .ensures ∙ ap (all named) (c .before .before .before .before .before .returned-by .ensures)) _ _ _ _ (c .before .before .before .if1 .left) (c .before .before .before .before .before .before .before .pre .2) (c .before .before .expr-items .ensures) (c .before .value-items .ensures) (c .items-named .ensures)
+returns-2 c = loose-go _ named _ _ (c .before .before .before .before .defined-named .ensures ∙ ap (all named) (c .before .before .before .before .before .returned-by .ensures)) _ _ _ _ (c .before .before .before .if1 .left) (c .before .before .before .before .before .before .before .pre .2) (c .before .before .expr-items .ensures) (c .before .value-items .ensures) (c .items-named .ensures)
 
 pub loose-named-at-spec : {M : Type 1} → statement M
 loose-named-at-spec =

@@ -1,6 +1,6 @@
 use borrow.Author.Needs.{needs}
 use Rattle.meaning.specs.Defined.{named}
-use Rattle.meaning.proofs.RegistersNamed.{strict-stop, strict-go}
+use Rattle.meaning.proofs.Tested.{strict-stop, strict-go}
 use Rattle.meaning.proofs.registers_named.strict_named.Statement.{statement}
 use Rattle.meaning.proofs.registers_named.strict_named.Tie as tie
 

@@ -2,9 +2,9 @@ use mathlib.Core.Path.{_∙_}
 use borrow.Author.Needs.{needs}
 use Rattle.meaning.specs.Defined.{lone}
 use Rattle.meaning.proofs.Defining.{once-is}
-use Rattle.meaning.proofs.RegistersNamed.{strict-stop, strict-go}
-use Rattle.meaning.proofs.once.defined_once.Statement.{statement}
-use Rattle.meaning.proofs.once.defined_once.Tie as tie
+use Rattle.meaning.proofs.Tested.{strict-stop, strict-go}
+use Rattle.meaning.proofs.once.scan_once.Statement.{statement}
+use Rattle.meaning.proofs.once.scan_once.Tie as tie
 
 phis-lone-requires : tie.Need-phis-lone-requires
 phis-lone-requires c κs = search needs
@@ -18,5 +18,5 @@ assigns-lone-requires c κs = search needs
 returns-2 : tie.Need-returns-2
 returns-2 c = strict-go _ (lone (c .before .before .before .before .args .f .now)) _ (c .before .before .phis-lone .ensures) _ (c .before .if1 .left) (c .assigns-lone .ensures) ∙ once-is _
 
-pub defined-once-spec : {M : Type 1} → statement M
-defined-once-spec = tie.close (tie.spec phis-lone-requires returns assigns-lone-requires returns-2)
+pub scan-once-spec : {M : Type 1} → statement M
+scan-once-spec = tie.close (tie.spec phis-lone-requires returns assigns-lone-requires returns-2)
