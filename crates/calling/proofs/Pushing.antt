@@ -2,13 +2,12 @@
 use mathlib.Core.Path.{_≡_, refl, sym, ap, _∙_}
 use mathlib.Core.Bool.{Bool, true, false, cond, _&&_, _||_, or-true, or-false}
 use mathlib.Core.List.{List, [], _∷_, _++_}
-use Prim.Native.Nat.{ℕ, suc, _+_, _-_, _/_, _%_, _≤_, _<_}
+use Prim.Native.Nat.{ℕ, suc, _+_, _-_, _≤_, _<_}
 use native.Mathlib.Omega.{arith}
 use lib.Dec.{eqb}
 use Rattle.definition.specs.Codes.{kStore}
 use Rattle.definition.specs.Edition.{Edition}
 use Rattle.definition.specs.Lists.{gather}
-use Rattle.definition.specs.Contents.{stmtWord}
 use Rattle.definition.specs.Owners.{stmtKind, stmtField}
 use Rattle.definition.specs.Read.{marked}
 use Rattle.definition.specs.Tokens.{Token}
@@ -78,11 +77,7 @@ module _ (E : Edition) (f : List ℕ) where
       sym (s ∙ ap (λ (l : List ℕ). seen (emitAll r (argsOf E f b l))) (nodes-none from j h) ∙ args-none E f b r)
       ∙ ap (λ (ps : List Token). seen (emitAll r₀ ps)) (args-are E f (pushedNodes f from i))
 
--- ---- the tests, by the words that were read
-pub marked-is : (f : List ℕ) (i w : ℕ) → w ≡ stmtWord f i 2 → eqb (w / 4 % 2) 1 ≡ marked f i 4
-unfolding marked
-marked-is f i w p = rw (← p)
-
+-- ---- the tests, by what was read
 pub push-kind : (f : List ℕ) (i k : ℕ) (m : Bool) → m ≡ marked f i 4 → m ≡ true → k ≡ stmtKind f i → eqb k 2 ≡ isPush f i
 unfolding isPush
 push-kind f i k m s t w = rw (← s, t, w)

@@ -1,18 +1,17 @@
 -- The result's variable: the tables say at the number of a call's value what the definition counts of it, so the code's test is the definition's and
 -- the code of the name is that of the value.
 use mathlib.Core.Path.{_≡_, refl, sym, ap, ap₂, _∙_}
-use mathlib.Core.Bool.{Bool, true, false, not, cond, _||_}
+use mathlib.Core.Bool.{Bool, true, false, cond}
 use mathlib.Core.List.{List, [], _∷_}
 use Prim.Native.Nat.{ℕ, _+_, _<_}
 use native.Mathlib.Omega.{arith}
-use lib.Dec.{eqb}
 use lib.ListN.{length, getD}
 use mir.Syntax.{w8}
 use mir.Val.{Fits}
-use borrow.Author.Tests.{eq-eqb, ne-eqb}
+use borrow.Author.Tests.{ne-eqb}
 use Rattle.definition.specs.Edition.{Edition, statements}
 use Rattle.definition.specs.Texts.{txt}
-use Rattle.definition.specs.Lists.{any, count}
+use Rattle.definition.specs.Lists.{count}
 use Rattle.definition.specs.Contents.{size}
 use Rattle.definition.specs.Owners.{stmtKind, stmtField}
 use Rattle.definition.specs.Values.{Value, value, eqv, within}
@@ -26,8 +25,6 @@ use Rattle.definition.specs.Tokens.{register, punct}
 use Rattle.definition.specs.Render.{variable}
 use Rattle.definition.specs.Lower.{isRead, resultTokens}
 use Rattle.definition.specs.Blocks.{lowering}
-use Rattle.definition.proofs.Bools.{by-test}
-use Rattle.definition.proofs.ListLaws.{any-count, any-none}
 use Rattle.words.proofs.Laws.{word-small}
 use Rattle.values.specs.declared.places.Places.{Places}
 use Rattle.values.specs.Keys.{keyOf, stmtKey, placesOf, keyed}
@@ -35,33 +32,16 @@ use Rattle.values.specs.Tables.{at, table}
 use Rattle.values.proofs.Tables.{table-read}
 use Rattle.values.proofs.Placed.{at-stmt, keyed-length, stmt-here}
 use Rattle.names.specs.Codes.{nameText, nameCode}
-use Rattle.reads.specs.Counts.{LiveReads, PhiReads}
+use Rattle.reads.specs.Counts.{readBy, LiveReads, PhiReads}
+use Rattle.reads.proofs.ReadAtAll.{read-by}
 use Rattle.room.specs.Room.{Room, emit, emitAll, seen}
-use Rattle.room.proofs.Laws.{next, done}
+use Rattle.room.proofs.Laws.{next, done, pieces-are}
 use Rattle.render.specs.Told.{Told}
 use Rattle.lowering.specs.Lowered.{loweringOf}
 use Rattle.calling.specs.Given.{Results}
 use Rattle.calling.specs.Written.{settingOf, resultOf}
 use Rattle.lowering.proofs.Gen.{variable-coded}
-use Rattle.lowering.proofs.Commas.{pieces-are, none-are}
-
--- ---- what an entry that is not 0 says
-some-counted : {A : Type 0} (p : A → Bool) (l : List A) → not (eqb (count p l) 0) ≡ any p l
-some-counted p l =
-    by-test (any p l)
-    (λ h. let z : count p l ≡ 0 → ⊥ = (λ q. omega (arith, any-count p l h)) in rw (h, ne-eqb (count p l) 0 z))
-    (λ h. rw (h, any-none p l h))
-
-bit-so : (b : Bool) → not (eqb (cond b 1 0) 0) ≡ b
-bit-so true = refl
-bit-so false = refl
-
--- ---- the code's test, by what was read
-pub read-so : (x w : ℕ) (b : Bool) → w ≡ x → (w ≡ 0 → ⊥) → true ≡ (not (eqb x 0) || b)
-read-so x w b e h = rw (← e, ne-eqb w 0 h)
-
-pub read-else : (x y w z : ℕ) (b : Bool) → w ≡ x → w ≡ 0 → z ≡ y → b ≡ not (eqb z 0) → b ≡ (not (eqb x 0) || not (eqb y 0))
-read-else x y w z b e h k t = rw (← e, eq-eqb w 0 h, ← k) t
+use Rattle.lowering.proofs.Commas.{none-are}
 
 -- ---- the name and the sign behind it
 pub put-setting : (b y z : ℕ) (r r₁ r₀ : Room) → r₁ ≡ emit r₀ (register (nameOr (regName b y) (nameText b y z))) → r ≡ emit r₁ (punct (txt " = "))
@@ -100,14 +80,12 @@ module _ (f numbers names live phi : List ℕ) (P : Places) (G : Results f P num
           ∙ ap₂ (λ (a b : List ℕ). at a (at b (placesOf f .stmts + i))) e (G .ground .values)
           ∙ table-read f (length numbers) g (placesOf f .stmts + i) (stmtField f i 4) (stmtField f i 5) here key (word-small f bytes _)
 
-      module _ (b : Bool) (test : b ≡ (not (eqb (at live m) 0) || not (eqb (at phi m) 0))) where
+      module _ (b : Bool) (test : b ≡ readBy live phi m) where
         read-is : (E : Edition) → isRead (readsOf (read E f)) result ≡ b
-        unfolding isRead readsOf within
         read-is E =
             sym (test
-            ∙ ap₂ (λ (p q : Bool). p || q)
-            (ap (λ (k : ℕ). not (eqb k 0)) (tells (λ v. count (eqv v) (reads (read E f))) live (G .times E)) ∙ some-counted (eqv result) (reads (read E f)))
-            (ap (λ (k : ℕ). not (eqb k 0)) (tells (λ v. cond (within v (phiReads (read E f))) 1 0) phi (G .flows E)) ∙ bit-so (within result (phiReads (read E f)))))
+            ∙ read-by E f live phi m result (tells (λ v. count (eqv v) (reads (read E f))) live (G .times E))
+            (tells (λ v. cond (within v (phiReads (read E f))) 1 0) phi (G .flows E)))
 
         -- by whether it is read
         result-by : (E : Edition) → resultOf E f i ≡ cond b (register (variable (loweringOf E f .gen) result) ∷ punct (txt " = ") ∷ []) []

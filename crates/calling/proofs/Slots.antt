@@ -6,8 +6,6 @@ use mathlib.Core.List.{List, [], _∷_, _++_}
 use Prim.Native.Nat.{ℕ, zero, suc, _≤_, _<_}
 use native.Mathlib.Omega.{arith}
 use lib.Dec.{eqb, ltb}
-use lib.ListN.{length, length-append, List·getD-append, List·getD-eq-default}
-use lib.Seq.{getD-at}
 use borrow.Author.Tests.{ltb-true, ltb-false, lt-ltb, le-ltb, eqb-true, eq-eqb, ne-eqb}
 use Rattle.definition.specs.Codes.{tConst, tUse, tBin, tUn, tLoad}
 use Rattle.definition.specs.Edition.{Edition, statements, expressions}
@@ -17,7 +15,6 @@ use Rattle.definition.specs.Contents.{size, text, textAt, itemWord, exprWord, e
 use Rattle.definition.specs.Owners.{stmtField}
 use Rattle.definition.specs.Shape.{owned}
 use Rattle.definition.specs.Ssa.{Expr, Name}
-use Rattle.definition.specs.Ssa.Expr.{Opaque}
 use Rattle.definition.specs.Read.{treeAt, tree, trees, allTrees, read}
 use Rattle.definition.specs.Offsets.{offsets}
 use Rattle.definition.specs.Lookup.{globalName}
@@ -25,10 +22,11 @@ use Rattle.definition.specs.Tokens.{tok, symbol, punct}
 use Rattle.definition.specs.Render.{globalOf, globalOr}
 use Rattle.definition.specs.Lower.{direct, slotName, indirect, isIndirect}
 use Rattle.definition.proofs.Bools.{by-test, by-cond}
+use Rattle.records.proofs.Trees.{tree-lower, tree-past}
 use Rattle.text.specs.Supplied.{isGlobal, globalText}
 use Rattle.text.proofs.Lookups.{global-is}
 use Rattle.room.specs.Room.{Room, emit, emitAll, seen}
-use Rattle.room.proofs.Laws.{next, more, done}
+use Rattle.room.proofs.Laws.{next, more, done, pieces-are}
 use Rattle.render.specs.Gens.{rendered}
 use Rattle.lowering.specs.Lowered.{loweringOf, exprOf}
 use Rattle.calls.specs.Spelled.{directText}
@@ -36,30 +34,9 @@ use Rattle.calls.proofs.Naming.{direct-tokens}
 use Rattle.lowering.specs.Commas.{treesOf, listed}
 use Rattle.calling.specs.Written.{isSlot, slotText, computedOf, firstTokens, targetText, targetOf}
 use Rattle.lowering.proofs.Gen.{rendered-is, gen-supplied}
-use Rattle.lowering.proofs.Commas.{pieces-are, listed-cons}
+use Rattle.lowering.proofs.Commas.{listed-cons}
 
 module _ (E : Edition) (f : List ℕ) where
-  -- ---- the tree of an expression
-  trees-length : (n : ℕ) → length (trees E f n) ≡ n
-  unfolding trees
-  trees-length zero = refl
-  trees-length (suc n) = omega (arith, length-append (trees E f n) (tree E f (trees E f n) n ∷ []), trees-length n)
-
-  tree-lower : (n i : ℕ) → i < n → treeAt (trees E f n) i ≡ tree E f (trees E f i) i
-  unfolding trees
-  tree-lower zero i h = absurd (omega arith)
-  tree-lower (suc n) i h =
-      let t = trees E f n in
-      let l = trees-length n in
-      let below = tree-lower n i in
-      by-test (ltb i n)
-      (λ q. let b = ltb-true i n q in List·getD-append t (tree E f t n ∷ []) (Opaque []) i (omega arith) ∙ below b)
-      (λ q. let p : i ≡ n = omega (arith, ltb-false i n q) in
-      getD-at t (tree E f t n) [] (Opaque []) i (l ∙ sym p) ∙ ap (λ (m : ℕ). tree E f (trees E f m) m) (sym p))
-
-  tree-past : (n i : ℕ) → n ≤ i → treeAt (trees E f n) i ≡ Opaque []
-  tree-past n i h = List·getD-eq-default (trees E f n) (Opaque []) (omega (arith, trees-length n))
-
   -- ---- a load of a constant
   abbrev supplied : List Name
   supplied = loweringOf E f .gen .supplied
@@ -98,9 +75,9 @@ module _ (E : Edition) (f : List ℕ) where
   unfolding globalOf
   below-const n c m =
       by-test (ltb c n)
-      (λ h. rw h (ap (globalOf supplied m) (tree-lower n c (ltb-true c n h)) ∙ const-tree (trees E f c) c m
+      (λ h. rw h (ap (globalOf supplied m) (tree-lower E f n c (ltb-true c n h)) ∙ const-tree (trees E f c) c m
       ∙ both (eqb (exprWord f c 0) tConst) (isGlobal (exprLong f c 1)) (globalText f (text E) (exprLong f c 1) m) (global-name (exprLong f c 1) m)))
-      (λ h. rw h (ap (globalOf supplied m) (tree-past n c (ltb-false c n h))))
+      (λ h. rw h (ap (globalOf supplied m) (tree-past E f n c (ltb-false c n h))))
     where
       both : (p q : Bool) {x : Option (List ℕ)} (y : List ℕ) → x ≡ cond q (some y) none → cond p x none ≡ cond (p && q) (some y) none
       both true q y k = k
@@ -111,9 +88,9 @@ module _ (E : Edition) (f : List ℕ) where
   slot-is n =
       let c = exprWord f n 2 in
       by-test (ltb n (size f expressions))
-      (λ h. rw h (ap (slotName (loweringOf E f)) (tree-lower (size f expressions) n (ltb-true n (size f expressions) h)) ∙ load-tree (trees E f n) n
+      (λ h. rw h (ap (slotName (loweringOf E f)) (tree-lower E f (size f expressions) n (ltb-true n (size f expressions) h)) ∙ load-tree (trees E f n) n
       ∙ three (eqb (exprWord f n 0) tLoad) (ltb c n) (eqb (exprWord f c 0) tConst) (isGlobal (exprLong f c 1)) (globalText f (text E) (exprLong f c 1) (exprWord f n 1)) (below-const n c (exprWord f n 1))))
-      (λ h. rw h (ap (slotName (loweringOf E f)) (tree-past (size f expressions) n (ltb-false n (size f expressions) h))))
+      (λ h. rw h (ap (slotName (loweringOf E f)) (tree-past E f (size f expressions) n (ltb-false n (size f expressions) h))))
     where
       three : (p q r s : Bool) {x : Option (List ℕ)} (y : List ℕ) → x ≡ cond (q && r && s) (some y) none → cond p x none ≡ cond (p && q && r && s) (some y) none
       three true q r s y k = k

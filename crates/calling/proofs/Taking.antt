@@ -1,54 +1,24 @@
 -- The arguments that the definition takes: the first of a run of list items, without the address that stands first, are a shorter run.
 use mathlib.Core.Path.{_≡_, refl, sym, ap, ap₂, _∙_}
 use mathlib.Core.Bool.{Bool, true, false, cond}
-use mathlib.Core.List.{List, [], _∷_, map}
+use mathlib.Core.List.{List}
 use Prim.Native.Nat.{ℕ, zero, suc, _+_, _-_, _≤_, _<_}
 use native.Mathlib.Omega.{arith}
-use lib.Dec.{ltb}
 use lib.ListN.{take, drop, getD}
-use lib.Seq.{take-all}
 use mir.Syntax.{w8}
 use mir.Val.{Fits}
-use borrow.Author.Tests.{lt-ltb, le-ltb, ltb-true, ltb-false}
+use borrow.Author.Tests.{lt-ltb, le-ltb}
 use Rattle.definition.specs.Edition.{Edition}
 use Rattle.definition.specs.Lists.{range}
-use Rattle.definition.specs.Contents.{itemWord}
 use Rattle.definition.specs.Owners.{stmtKind, stmtField}
-use Rattle.definition.specs.Read.{treeAt, allTrees}
-use Rattle.definition.proofs.Bools.{by-test, by-cond}
-use Rattle.records.proofs.Editions.{length-range}
 use Rattle.records.proofs.Items.{items-few, exprs-fit}
 use Rattle.records.proofs.Laws.{call-exprs}
 use Rattle.calling.specs.Given.{CallAt, ItemsAt}
-use Rattle.lowering.specs.Commas.{treesOf, listed}
-use Rattle.calling.specs.Written.{skip, least, counted}
-
--- ---- the first of a run
-take-less : (c a n : ℕ) → c ≤ n → take c (range a n) ≡ range a c
-unfolding range
-take-less zero a n h = refl
-take-less (suc c) a zero h = absurd (omega arith)
-take-less (suc c) a (suc n) h = ap (λ (l : List ℕ). a ∷ l) (take-less c (a + 1) n (omega arith))
-
-take-range : (c a n : ℕ) → take c (range a n) ≡ range a (least c n)
-unfolding least
-take-range c a n =
-    by-test (ltb c n) (λ h. rw h (take-less c a n (omega (arith, ltb-true c n h))))
-    (λ h. rw h (take-all c (range a n) (omega (arith, length-range a n, ltb-false c n h))))
-
-take-map : {A : Type 0} {B : Type 0} (g : A → B) (c : ℕ) (l : List A) → take c (map g l) ≡ map g (take c l)
-take-map g zero l = refl
-take-map g (suc c) [] = refl
-take-map {A} {B} g (suc c) (x ∷ l) = ap (λ (m : List B). g x ∷ m) (take-map g c l)
+use Rattle.lowering.specs.Commas.{treesOf, listed, least}
+use Rattle.lowering.proofs.Commas.{take-listed, least-le}
+use Rattle.calling.specs.Written.{skip, counted}
 
 module _ (E : Edition) (f : List ℕ) where
-  take-listed : (c a n : ℕ) → take c (treesOf E f (listed f a n)) ≡ treesOf E f (listed f a (least c n))
-  unfolding treesOf listed
-  take-listed c a n =
-      let word : ℕ → ℕ = (λ (k : ℕ). itemWord f k 0) in
-      take-map (treeAt (allTrees E f)) c (map word (range a n))
-      ∙ ap (λ (l : List ℕ). map (treeAt (allTrees E f)) l) (take-map word c (range a n) ∙ ap (λ (l : List ℕ). map word l) (take-range c a n))
-
   -- without the address
   dropped : (b : Bool) (item n : ℕ) → cond b (drop 1 (treesOf E f (listed f item n))) (treesOf E f (listed f item n)) ≡ treesOf E f (listed f (item + skip b n) (n - skip b n))
   unfolding treesOf listed range skip
@@ -65,7 +35,7 @@ module _ (E : Edition) (f : List ℕ) where
   pub counted-are : (b : Bool) (item n c : ℕ)
       → take c (cond b (drop 1 (treesOf E f (listed f item n))) (treesOf E f (listed f item n))) ≡ treesOf E f (counted f b item n c)
   unfolding counted
-  counted-are b item n c = ap (take c) (dropped b item n) ∙ take-listed c (item + skip b n) (n - skip b n)
+  counted-are b item n c = ap (take c) (dropped b item n) ∙ take-listed E f c (item + skip b n) (n - skip b n)
 
 -- ---- what the code computes
 pub skip-empty : (b : Bool) (n : ℕ) → n ≡ 0 → 0 ≡ skip b n
@@ -86,18 +56,6 @@ unfolding skip
 skip-le true zero = omega arith
 skip-le true (suc n) = rw (lt-ltb 0 (suc n) (omega arith)) (omega arith)
 skip-le false n = omega arith
-
-pub least-left : (a b : ℕ) → a < b → a ≡ least a b
-unfolding least
-least-left a b h = rw (lt-ltb a b h)
-
-pub least-right : (a b : ℕ) → b ≤ a → b ≡ least a b
-unfolding least
-least-right a b h = rw (le-ltb a b h)
-
-pub least-le : (a b : ℕ) → least a b ≤ b
-unfolding least
-least-le a b = by-cond (λ x. x ≤ b) (ltb a b) (λ h. omega (arith, ltb-true a b h)) (λ h. omega arith)
 
 -- ---- the run stays below 32 bits
 pub items-of : (f : List ℕ) (i item from : ℕ) → CallAt f i item from → ItemsAt f i item

@@ -23,19 +23,16 @@ use Rattle.definition.specs.Tokens.{punct, line}
 use Rattle.definition.specs.Lower.{Here, isIndirect, pushed, commaList, countSet, callArgs, call, waiting, lowerKind}
 use Rattle.definition.specs.Blocks.{lowering}
 use Rattle.inline.specs.Placing.{behind}
-use Rattle.room.specs.declared.out.Out.{Out}
-use Rattle.room.specs.declared.out.At.the-variants.{Address}
-use Rattle.room.specs.Room.{Room, Sheet, roomOf, optionOf, emit, emitAll, seen, sheetOf, writeAll, seenSheet}
-use Rattle.room.specs.Ending.{Ended}
-use Rattle.room.proofs.Laws.{next, more, done, line-ends, written-none}
+use Rattle.room.specs.Room.{Room, emit, emitAll, seen}
+use Rattle.room.proofs.Laws.{next, more, done, pieces-are}
 use Rattle.lowering.specs.Lowered.{loweringOf, lowered}
 use Rattle.calls.specs.Waiting.{pending, pushedNodes}
 use Rattle.calls.proofs.Waits.{pushed-nodes}
 use Rattle.calling.specs.Given.{CallAt}
-use Rattle.lowering.specs.Commas.{treesOf, listed}
-use Rattle.calling.specs.Written.{resultOf, targetText, targetOf, skip, least, counted, waitingNodes, argNodes, callOf}
+use Rattle.lowering.specs.Commas.{treesOf, listed, least}
+use Rattle.calling.specs.Written.{resultOf, targetText, targetOf, skip, counted, waitingNodes, argNodes, callOf}
 use Rattle.lowering.proofs.Gen.{gen-bits}
-use Rattle.lowering.proofs.Commas.{listed-is, pieces-are}
+use Rattle.lowering.proofs.Commas.{listed-is}
 use Rattle.calling.proofs.Taking.{counted-are}
 
 module _ (E : Edition) (f : List ℕ) where
@@ -79,23 +76,11 @@ module _ (E : Edition) (f : List ℕ) where
         (ap (λ (xs : List Expr). Call (textAt E f (stmtField f i 0) (stmtField f i 1)) xs (when (stmtField f i 3) (value (stmtField f i 4) (stmtField f i 5))) (itemValues f i)) items-are)
 
     module _ (H : Here) (end : ℕ) where
-      lowered-is : lowered E f H (pending E f from i) set end i ≡ cond (marked f i 1) [] (line 1 (some (stmtLong f i 0)) (callOf E f i item from count) ∷ [])
+      pub call-lines : lowered E f H (pending E f from i) set end i ≡ cond (marked f i 1) [] (line 1 (some (stmtLong f i 0)) (callOf E f i item from count) ∷ [])
       unfolding lowered stmtAt lowerKind call callOf resultOf targetOf
-      lowered-is =
+      call-lines =
           ap (lowerKind (loweringOf E f) H (pending E f from i) set stmt (behind E f end i)) kind-is
           ∙ ap (λ (xs : List Expr). cond (marked f i 1) [] (line 1 (some (stmtLong f i 0)) (resultOf E f i ++ targetOf E f i item ++ (punct (txt "(") ∷ (commaList (loweringOf E f) xs ++ (punct (txt ");") ∷ [])))) ∷ [])) args-are
-
-      -- ---- the returns
-      pub call-dead : (b : Bool) (s : Sheet) → b ≡ marked f i 1 → b ≡ true → seenSheet s ≡ seenSheet (writeAll s (lowered E f H (pending E f from i) set end i))
-      call-dead b s p h =
-          rw (lowered-is, ← p, h) (written-none s)
-
-      pub call-live : (b : Bool) (l l′ : List ℕ) (r₀ : Room) (ks ts : List ℕ) (o₁ o : Out) (a : ℕ) → b ≡ marked f i 1 → b ≡ false → a ≡ stmtLong f i 0
-          → seen (roomOf ks ts o₁) ≡ seen (emitAll r₀ (callOf E f i item from count)) → Ended l o₁ 1 (optionOf (Address a)) l′ o
-          → seenSheet (sheetOf l′ ks ts o) ≡ seenSheet (writeAll (record { lines = l; room = r₀ }) (lowered E f H (pending E f from i) set end i))
-      unfolding optionOf
-      call-live b l l′ r₀ ks ts o₁ o a p h q s d =
-          rw (lowered-is, ← p, h, ← q) (line-ends l l′ r₀ (roomOf ks ts o₁) o 1 (some a) (callOf E f i item from count) s d)
 
   -- ---- its tokens
   pub put-call : (i item from count : ℕ) (r r₄ r₃ r₂ r₁ r₀ : Room) → seen r₁ ≡ seen (emitAll r₀ (resultOf E f i)) → seen r₂ ≡ seen (emitAll r₁ (targetOf E f i item))

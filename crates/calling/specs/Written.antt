@@ -18,7 +18,7 @@ use Rattle.definition.specs.Lower.{resultTokens, direct, indirect, isIndirect, 
 use Rattle.text.specs.Supplied.{isGlobal, globalText}
 use Rattle.names.specs.Codes.{nameText}
 use Rattle.lowering.specs.Lowered.{loweringOf, exprOf}
-use Rattle.lowering.specs.Commas.{argOf, treesOf, listed}
+use Rattle.lowering.specs.Commas.{argOf, treesOf, listed, least}
 use Rattle.calls.specs.Waiting.{pushedNodes}
 
 -- ---- the pushes
@@ -65,9 +65,6 @@ targetOf E f i item =
 -- how many of n list items stand before them: the address of a computed call
 unfoldable pub skip : Bool → ℕ → ℕ
 skip computed n = cond (computed && ltb 0 n) 1 0
-
-unfoldable pub least : ℕ → ℕ → ℕ
-least a b = cond (ltb a b) a b
 
 -- of 64 bits, and of 32
 unfoldable pub counted : List ℕ → Bool → ℕ → ℕ → ℕ → List ℕ

@@ -1,9 +1,10 @@
 // The arguments of a call: of 64 bits those of its list items whose registers were set, of 32 bits the values pushed for it.
-use crate::pushed::is_pushed;
 use crate::pushed::put_pushed;
 use calls::direct::is_indirect;
+use lowering::list::least_of;
 use lowering::list::put_items;
 use meaning::meaning::bits_of;
+use records::owners::is_pushed;
 use records::owners::stmt_field;
 use room::out::Out;
 use values::places::Places;
@@ -17,7 +18,7 @@ ghost use Rattle.render.specs.Told.{Told};
 ghost use Rattle.lowering.specs.Lowered.{loweringOf};
 ghost use Rattle.calling.specs.Given.{CallAt, ItemsAt};
 ghost use Rattle.lowering.specs.Commas.{treesOf};
-ghost use Rattle.calling.specs.Written.{targetText, skip, least, counted, waitingNodes, argNodes};
+ghost use Rattle.calling.specs.Written.{targetText, skip, counted, waitingNodes, argNodes};
 
 // How many of n list items stand before the arguments: the address of a computed call.
 fn skipped(computed: bool, n: u32) -> u32
@@ -30,15 +31,6 @@ fn skipped(computed: bool, n: u32) -> u32
         return 1;
     }
     0
-}
-
-fn least_of(a: u32, b: u32) -> u32
-    ensures { λ r. ⌜ r ≡ least a b ⌝ }
-{
-    if a < b {
-        return a;
-    }
-    b
 }
 
 // Of 64 bits: the first `count`.

@@ -2,10 +2,9 @@
 use crate::args::put_args;
 use crate::callee::put_target;
 use crate::result::put_result;
-use records::contents::stmt_long;
-use records::contents::stmt_word;
-use room::line::end_line;
-use room::out::At;
+use lowering::kinds::PUNCT;
+use lowering::line::end_stmt;
+use records::owners::is_dead;
 use room::out::Out;
 use room::put::put;
 use values::places::Places;
@@ -15,7 +14,7 @@ ghost use Prim.Native.Nat.{ℕ};
 ghost use lib.ListN.{length};
 ghost use Rattle.definition.specs.Edition.{Edition};
 ghost use Rattle.definition.specs.Contents.{text as textOf};
-ghost use Rattle.definition.specs.Read.{read, marked};
+ghost use Rattle.definition.specs.Read.{read};
 ghost use Rattle.definition.specs.Lower.{Here, countSet};
 ghost use Rattle.room.specs.Room.{roomOf, emitAll, seen, sheetOf, writeAll, seenSheet};
 ghost use Rattle.reads.specs.Counts.{LiveReads, PhiReads};
@@ -24,14 +23,6 @@ ghost use Rattle.lowering.specs.Lowered.{lowered};
 ghost use Rattle.calls.specs.Waiting.{pending};
 ghost use Rattle.calling.specs.Given.{CallAt};
 ghost use Rattle.calling.specs.Written.{callOf};
-
-const PUNCT: u32 = 6;
-
-fn is_dead(f: &[u8], i: u32) -> bool
-    ensures { λ r. ⌜ r ≡ marked (now (f .entry)) i 1 ⌝ }
-{
-    stmt_word(f, i, 2) % 2 == 1
-}
 
 // Its tokens.
 fn put_call(
@@ -143,5 +134,5 @@ pub fn call(
         from,
         count,
     );
-    end_line(lines, out, 1, At::Address(stmt_long(f, i, 0)))
+    end_stmt(lines, out, f, i)
 }

@@ -1,6 +1,7 @@
 // What a call calls: a name, or an expression.
 use calls::direct::is_indirect;
 use calls::direct::put_direct;
+use lowering::kinds::PUNCT;
 use records::contents::EXPRESSIONS;
 use records::contents::STATEMENTS;
 use records::contents::expr_long;
@@ -26,8 +27,6 @@ ghost use Rattle.render.specs.Told.{Told};
 ghost use Rattle.lowering.specs.Lowered.{loweringOf};
 ghost use Rattle.lowering.specs.Commas.{listed, treesOf};
 ghost use Rattle.calling.specs.Written.{isSlot, slotText, computedOf, firstTokens, targetOf};
-
-const PUNCT: u32 = 6;
 
 // Whether expression n loads a constant that names a global. A child that is not lower counts as no constant.
 fn is_slot(f: &[u8], n: u32) -> bool

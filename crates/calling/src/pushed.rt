@@ -1,7 +1,7 @@
 // The values pushed for a call, with `, ` between them.
 use lowering::list::put_arg;
-use records::contents::stmt_word;
 use records::owners::STORE;
+use records::owners::is_pushed;
 use records::owners::stmt_field;
 use records::owners::stmt_kind;
 use room::out::Out;
@@ -10,7 +10,6 @@ ghost use mathlib.Core.Path.{_≡_};
 ghost use mathlib.Core.Bool.{_||_};
 ghost use Rattle.definition.specs.Edition.{Edition};
 ghost use Rattle.definition.specs.Contents.{text as textOf};
-ghost use Rattle.definition.specs.Read.{marked};
 ghost use Rattle.definition.specs.Lower.{commaList};
 ghost use Rattle.room.specs.Room.{roomOf, emitAll, seen};
 ghost use Rattle.render.specs.Told.{Told};
@@ -19,14 +18,7 @@ ghost use Rattle.lowering.specs.Commas.{treesOf};
 ghost use Rattle.calls.specs.Waiting.{pushedNodes};
 ghost use Rattle.calling.specs.Written.{isPush, pushOf};
 
-// Whether statement i is marked as a push.
-pub fn is_pushed(f: &[u8], i: u32) -> bool
-    ensures { λ r. ⌜ r ≡ marked (now (f .entry)) i 4 ⌝ }
-{
-    stmt_word(f, i, 2) / 4 % 2 == 1
-}
-
-// Whether it pushes a value: only a Store does.
+// Whether statement i pushes a value: only a Store does.
 fn is_push(f: &[u8], i: u32) -> bool
     ensures { λ r. ⌜ r ≡ isPush (now (f .entry)) i ⌝ }
 {

@@ -1,5 +1,7 @@
 // The variable that a call's result goes to, where somebody reads it.
+use lowering::kinds::PUNCT;
 use meaning::meaning::bits_of;
+use reads::counts::is_read;
 use records::owners::stmt_field;
 use render::code::put_code;
 use room::out::Out;
@@ -7,29 +9,14 @@ use room::put::put;
 use values::places::Places;
 use values::read::at_u32;
 ghost use mathlib.Core.Path.{_≡_};
-ghost use mathlib.Core.Bool.{not, _||_};
 ghost use Prim.Native.Nat.{_<_};
-ghost use lib.Dec.{eqb};
 ghost use Rattle.definition.specs.Codes.{kCall};
 ghost use Rattle.definition.specs.Edition.{Edition, statements};
 ghost use Rattle.definition.specs.Contents.{size};
 ghost use Rattle.definition.specs.Owners.{stmtKind};
-ghost use Rattle.values.specs.Tables.{at};
 ghost use Rattle.room.specs.Room.{roomOf, emitAll, seen};
 ghost use Rattle.calling.specs.Given.{Results};
 ghost use Rattle.calling.specs.Written.{settingOf, resultOf};
-
-const PUNCT: u32 = 6;
-
-// Whether a live statement or a phi reads value m.
-fn is_read(live: &[u32], phi: &[u32], m: usize) -> bool
-    ensures { λ r. ⌜ r ≡ (not (eqb (at (now (live .entry)) m) 0) || not (eqb (at (now (phi .entry)) m) 0)) ⌝ }
-{
-    if at_u32(live, m) != 0 {
-        return true;
-    }
-    at_u32(phi, m) != 0
-}
 
 // `NAME = `, of a value in register `reg` whose name has this code.
 fn put_setting(tokens: &mut [u64], text: &mut [u8], out: Out, bits: u32, reg: u32, code: u32) -> Out

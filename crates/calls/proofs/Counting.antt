@@ -2,7 +2,7 @@
 use mathlib.Core.Path.{_≡_, refl, sym, ap, ap₂, _∙_}
 use mathlib.Core.Bool.{Bool, true, false, cond, _||_, or-false}
 use mathlib.Core.List.{List, [], _∷_, _++_, map, map-append}
-use Prim.Native.Nat.{ℕ, zero, suc, _+_, _-_, _%_, _≤_, _<_}
+use Prim.Native.Nat.{ℕ, zero, suc, _+_, _-_, _≤_, _<_}
 use native.Mathlib.Decide.{decLe}
 use native.Mathlib.Omega.{arith}
 use lib.Dec.{eqb}
@@ -10,17 +10,16 @@ use lib.ListN.{length}
 use borrow.Author.Tests.{le-leb, lt-leb, eq-eqb, ne-eqb}
 use Rattle.definition.specs.Edition.{Edition, args}
 use Rattle.definition.specs.Lists.{any, among, range}
-use Rattle.definition.specs.Contents.{size, argAt, stmtWord}
+use Rattle.definition.specs.Contents.{size, argAt}
 use Rattle.definition.specs.Owners.{stmtKind, stmtField}
 use Rattle.definition.specs.Meaning.{argRegs}
 use Rattle.definition.specs.Ssa.{Stmt}
-use Rattle.definition.specs.Read.{allTrees, stmtAt, kindAt, read}
+use Rattle.definition.specs.Read.{allTrees, stmtAt, kindAt, marked, read}
 use Rattle.definition.specs.Lower.{countSet}
 use Rattle.definition.specs.Blocks.{setAfter}
 use Rattle.definition.proofs.Bools.{by-test, both-false, eqb-swap}
+use Rattle.records.proofs.Ranges.{range-last}
 use Rattle.values.proofs.Ranges.{map-length}
-use Rattle.reads.proofs.Statements.{range-last}
-use Rattle.reads.proofs.Visits.{dead-is}
 use Rattle.calls.specs.Numbered.{greater}
 use Rattle.calls.proofs.Recorded.{by-kind}
 
@@ -210,10 +209,10 @@ module _ (f : List ℕ) (i k n : ℕ) (kind : k ≡ stmtKind f i) (E : Edition) 
       (by-kind E f (allTrees E f) i (λ x. setAfter A S x set ≡ set) (λ e. absurd (h (kind ∙ e))) (λ e. refl) (λ e x xs r vs. absurd (g (kind ∙ e)))
       (λ e c d xs. refl) (λ e b x y. refl) (λ e x. refl) (λ m c b r x xs vs. refl)))
 
-  pub set-dead : (w : ℕ) → k ≡ 3 → w ≡ stmtWord f i 2 → w % 2 ≡ 1 → After n
+  pub set-dead : (d : Bool) → k ≡ 3 → d ≡ marked f i 1 → d ≡ true → After n
   unfolding setAfter stmtAt kindAt
-  set-dead w h e d = so ∙ rw (sym kind ∙ h, sym (dead-is f i w e) ∙ eq-eqb (w % 2) 1 d)
+  set-dead d h e g = so ∙ rw (sym kind ∙ h, sym e ∙ g)
 
-  pub set-cleared : (w : ℕ) → k ≡ 3 → w ≡ stmtWord f i 2 → (w % 2 ≡ 1 → ⊥) → After 0
+  pub set-cleared : (d : Bool) → k ≡ 3 → d ≡ marked f i 1 → d ≡ false → After 0
   unfolding setAfter stmtAt kindAt
-  set-cleared w h e d = rw (sym kind ∙ h, sym (dead-is f i w e) ∙ ne-eqb (w % 2) 1 d) (sym (count-none A))
+  set-cleared d h e g = rw (sym kind ∙ h, sym e ∙ g) (sym (count-none A))

@@ -27,6 +27,7 @@ use Rattle.text.proofs.Lookups.{name-is, name-part, text-is}
 use Rattle.marks.specs.Labels.{blockOf}
 use Rattle.marks.proofs.Finding.{block-none}
 use Rattle.room.specs.Room.{Room, emit}
+use Rattle.room.proofs.Laws.{piece-as}
 use Rattle.calls.specs.declared.hex.Hex.{Hex}
 use Rattle.calls.specs.declared.hex.Hex.the-variants.{Value, None}
 use Rattle.calls.specs.Spelled.{outsideText, Trimmed, hexed, nameAtHex, indexAtHex, directIndex, directText}
@@ -101,10 +102,6 @@ module _ (f : List ℕ) (a : ℕ) (b : Bool) (is : (E : Edition) → b ≡ among
 
     pub put-name : b ≡ false → y ≡ emit x (tok k (outsideText f t a)) → y ≡ emit x (tok k (targetName (order (read E f)) (read E f .names) a))
     put-name h e = e ∙ ap (λ (l : List ℕ). emit x (tok k l)) (ap (λ (i : ℕ). outsideText f i a) (sym section) ∙ target-outside h)
-
--- a piece whose text is named otherwise
-pub piece-as : (x y : Room) (k : ℕ) (s t : List ℕ) → y ≡ emit x (tok k s) → s ≡ t → y ≡ emit x (tok k t)
-piece-as x y k s t e h = e ∙ ap (λ (l : List ℕ). emit x (tok k l)) h
 
 -- ---- direct calls
 module _ (f : List ℕ) (at n k : ℕ) (off : Trimmed f at n k) (h : Hex) (is : h ≡ hexed (readHex (part f (at + k) (n - k)))) where

@@ -3,13 +3,12 @@ use mathlib.Core.Path.{_≡_, sym, ap, _∙_}
 use mathlib.Core.Bool.{Bool, true, false, not, cond, _&&_, _||_}
 use mathlib.Core.Option.{Option}
 use mathlib.Core.List.{List, [], _∷_, map}
-use Prim.Native.Nat.{ℕ, zero, suc, _+_, _-_, _/_, _%_}
+use Prim.Native.Nat.{ℕ, zero, suc, _+_, _-_}
 use native.Mathlib.Omega.{arith}
 use lib.Dec.{eqb}
 use borrow.Author.Tests.{eqb-true, ne-eqb}
 use Rattle.definition.specs.Edition.{Edition}
 use Rattle.definition.specs.Lists.{range}
-use Rattle.definition.specs.Contents.{stmtWord}
 use Rattle.definition.specs.Owners.{stmtKind, stmtField}
 use Rattle.definition.specs.Values.{Value, value}
 use Rattle.definition.specs.Ssa.{Expr, Kind}
@@ -66,7 +65,7 @@ module _ (E : Edition) (f : List ℕ) (t : List Expr) (i : ℕ) where
       by-kind (λ k. pushed k ≡ map (treeAt t) (cond (eqb (stmtKind f i) 2) (stmtField f i 2 ∷ []) [])) (λ e. rw e) (λ e. rw e) (λ e x xs r vs. rw e)
       (λ e c d xs. rw e) (λ e b x y. rw e) (λ e x. rw e) (λ m c b r x xs vs. rw m)
 
--- ---- the returns of `leaves`, `is_push` and `takes_pushes`
+-- ---- the returns of `leaves` and `takes_pushes`
 module _ (f : List ℕ) (i : ℕ) where
   pub leaves-branch : (k : ℕ) → k ≡ stmtKind f i → k ≡ 4 → true ≡ leavesAt f i
   unfolding leavesAt
@@ -75,10 +74,6 @@ module _ (f : List ℕ) (i : ℕ) where
   pub leaves-return : (k : ℕ) → k ≡ stmtKind f i → (k ≡ 4 → ⊥) → eqb k 6 ≡ leavesAt f i
   unfolding leavesAt
   leaves-return k e h = rw (← e, ne-eqb k 4 h)
-
-  pub push-is : (w : ℕ) → w ≡ stmtWord f i 2 → eqb (w / 4 % 2) 1 ≡ marked f i 4
-  unfolding marked
-  push-is w e = rw e
 
   pub takes-not : (b : Bool) → b ≡ marked f i 4 → b ≡ true → false ≡ takesAt f i
   unfolding takesAt

@@ -1,30 +1,23 @@
 // The pushes that wait for a call: those of the block from one statement on, so one number says which.
-use records::contents::stmt_word;
 use records::owners::CALL;
+use records::owners::is_pushed;
 use records::owners::stmt_kind;
 ghost use mathlib.Core.Path.{_≡_};
 ghost use mathlib.Core.List.{map};
 ghost use Prim.Native.Nat.{_+_, _-_, _≤_, _<_};
 ghost use Rattle.definition.specs.Edition.{Edition};
 ghost use Rattle.definition.specs.Lists.{any, range};
-ghost use Rattle.definition.specs.Read.{allTrees, stmtAt, marked};
+ghost use Rattle.definition.specs.Read.{allTrees, stmtAt};
 ghost use Rattle.definition.specs.Lower.{takes};
 ghost use Rattle.definition.specs.Blocks.{pendAfter};
 ghost use Rattle.calls.specs.Numbered.{takesAt};
 ghost use Rattle.calls.specs.Waiting.{pending};
 
-// Whether statement i is marked as a push.
-fn is_push(f: &[u8], i: u32) -> bool
-    ensures { λ r. ⌜ r ≡ marked (now (f .entry)) i 4 ⌝ }
-{
-    stmt_word(f, i, 2) / 4 % 2 == 1
-}
-
 // Whether statement i takes the pushes before it: a call, dead or live, that is no push itself.
 fn takes_pushes(f: &[u8], i: u32) -> bool
     ensures { λ r. ⌜ r ≡ takesAt (now (f .entry)) i ⌝ }
 {
-    if is_push(f, i) {
+    if is_pushed(f, i) {
         return false;
     }
     stmt_kind(f, i) == CALL

@@ -2,9 +2,9 @@
 use records::contents::ARGS;
 use records::contents::arg_at;
 use records::contents::size_of;
-use records::contents::stmt_word;
 use records::owners::ASSIGN;
 use records::owners::CALL;
+use records::owners::is_dead;
 use records::owners::stmt_field;
 use records::owners::stmt_kind;
 ghost use mathlib.Core.Path.{_≡_};
@@ -53,7 +53,7 @@ pub fn set_behind(f: &[u8], i: u32, count: u32) -> u32
     if k != CALL {
         return count;
     }
-    if stmt_word(f, i, 2) % 2 == 1 {
+    if is_dead(f, i) {
         return count;
     }
     0

@@ -1,14 +1,12 @@
 // Where a jump goes: the label of a block, or else a supplied name that is no label's, or else the raw address.
 use crate::parts::begins_part;
-use digits::numbers::label;
 use marks::labels::block_of;
 use records::contents::name_word;
 use records::contents::offset_of;
 use room::from_file::put_name;
 use room::out::Out;
-use room::place::ready;
-use room::place::stop;
-use room::place::token;
+use room::piece::Made;
+use room::put::put_made;
 use room::put::put_outward;
 use text::names::Found;
 use text::names::name_for;
@@ -52,12 +50,7 @@ fn put_start(tokens: &mut [u64], text: &mut [u8], out: Out, kind: u32, a: u64) -
     ensures { λ r. ⌜ roomOf (now (tokens .exit)) (now (text .exit)) r
         ≡ emit (roomOf (now (tokens .entry)) (now (text .entry)) out) (tok kind (labelOf a)) ⌝ }
 {
-    if ready(tokens, text.len(), out, kind) {
-        let from = out.bytes;
-        let wrote = label(&mut text[from..], a);
-        return token(tokens, out, kind, wrote);
-    }
-    stop(out)
+    put_made(tokens, text, out, kind, Made::Label(a))
 }
 
 // The name of what is outside at a.

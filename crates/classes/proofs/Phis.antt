@@ -1,7 +1,7 @@
 -- The phis of the function that a file holds are the phis of the file, in the file's order: each block's begin where those of the block before it end.
 use mathlib.Core.Path.{_≡_, refl, sym, ap, _∙_}
 use mathlib.Core.Bool.{true, not, cond, _&&_}
-use mathlib.Core.List.{List, [], _∷_, _++_, map, map-append}
+use mathlib.Core.List.{List, [], _++_, map}
 use Prim.Native.Nat.{ℕ, zero, suc, _+_}
 use native.Mathlib.Omega.{arith}
 use lib.Dec.{eqb}
@@ -17,20 +17,10 @@ use Rattle.definition.specs.Read.{phiAt, blockAt, allTrees, read}
 use Rattle.definition.specs.Classes.{Pair, pairs, unions, alone, classes}
 use Rattle.definition.proofs.Bools.{by-test}
 use Rattle.records.proofs.Also.{and-both}
-use Rattle.values.proofs.Ranges.{range-parts, gather-more}
+use Rattle.records.proofs.Ranges.{range-parts, gather-map, map-gather}
+use Rattle.values.proofs.Ranges.{gather-more}
 
 -- ---- runs of numbers, each where the one before it ends
-module _ {A B : Type 0} where
-  gather-map : (h : B → List A) (g : ℕ → B) (xs : List ℕ) → gather h (map g xs) ≡ gather (λ i. h (g i)) xs
-  unfolding gather
-  gather-map h g [] = refl
-  gather-map h g (x ∷ xs) = ap (λ (l : List A). h (g x) ++ l) (gather-map h g xs)
-
-map-gather : {A : Type 0} (g : ℕ → A) (h : ℕ → List ℕ) (xs : List ℕ) → gather (λ i. map g (h i)) xs ≡ map g (gather h xs)
-unfolding gather
-map-gather g h [] = refl
-map-gather g h (x ∷ xs) = rw (map-gather g h xs) (sym (map-append g (h x) (gather h xs)))
-
 runs : (c : ℕ → ℕ) (n : ℕ) → gather (λ i. range (sumBelow i c) (c i)) (range 0 n) ≡ range 0 (sumBelow n c)
 unfolding gather range sumBelow
 runs c zero = refl
@@ -55,7 +45,7 @@ pub phis-read : (E : Edition) (f : List ℕ) → owned f ≡ true → phisOf (re
 unfolding phisOf read blockAt firstPhi
 phis-read E f own =
     gather-map (λ b. b .phis) (blockAt E f (allTrees E f)) (range 0 (size f blocks))
-    ∙ map-gather (phiAt f) (λ i. range (sumBelow i (blockPhis f)) (blockPhis f i)) (range 0 (size f blocks))
+    ∙ sym (map-gather (phiAt f) (λ i. range (sumBelow i (blockPhis f)) (blockPhis f i)) (range 0 (size f blocks)))
     ∙ ap (map (phiAt f)) (runs (blockPhis f) (size f blocks))
     ∙ ap (λ (n : ℕ). map (phiAt f) (range 0 n)) (owned-phis f own)
 

@@ -13,9 +13,10 @@ use Rattle.definition.specs.Values.{Value, value, eqv, before, lesser, greater}
 use Rattle.definition.specs.Classes.{Member, Pair, find, union}
 use Rattle.definition.proofs.Bools.{by-test}
 use Rattle.definition.proofs.ListLaws.{Each}
+use Rattle.definition.proofs.Equal.{eqv-true}
 use Rattle.values.specs.Keys.{keyOf, valueOf}
 use Rattle.values.specs.Tables.{at, firstOf, numbersOf}
-use Rattle.values.proofs.Tables.{key-not-0, decode, eqv-keys, eqv-true, number-first, number-key}
+use Rattle.values.proofs.Tables.{key-not-0, decode, eqv-keys, number-first, number-key}
 use Rattle.classes.specs.Roots.{under, renamed, merged, rootIn, join}
 use Rattle.classes.proofs.Labels.{at-out, at-renamed}
 use Rattle.classes.proofs.Members.{Here, has, rootLeft, rootRight, find-union}

@@ -10,7 +10,7 @@ use Rattle.definition.specs.Lists.{range, only}
 use Rattle.definition.specs.Tokens.{Token, tok}
 use Rattle.definition.proofs.ListLaws.{only-append}
 use Rattle.room.specs.Room.{Room, emit, emitAll, seen}
-use Rattle.room.proofs.Laws.{next, more, done}
+use Rattle.room.proofs.Laws.{next, more, done, pieces-are}
 use Rattle.sheet.specs.Buffers.{kindAt, startAt, endAt, textAt, tokenAt, tokensIn}
 use Rattle.sheet.specs.Ranges.{between, SamePlace}
 use Rattle.clips.specs.declared.clip.Clip.{Clip}
@@ -24,10 +24,6 @@ map-snoc f a zero = let p : a + 0 ≡ a = omega arith in rw p
 map-snoc f a (suc k) =
     let p : a + suc k ≡ a + 1 + k = omega arith in
     rw p (ap (λ (l : List Token). f a ∷ l) (map-snoc f (a + 1) k))
-
--- the same pieces, named otherwise
-pub pieces-are : (r r₀ : Room) (ps qs : List Token) → seen r ≡ seen (emitAll r₀ ps) → ps ≡ qs → seen r ≡ seen (emitAll r₀ qs)
-pieces-are r r₀ ps qs h e = rw (← e) h
 
 -- ---- one token
 pub put-range : (r₁ r : Room) (k : ℕ) (t : List ℕ) (f e g : ℕ) → g ≡ e - f → r₁ ≡ emit r (tok k (part t f g)) → r₁ ≡ emit r (tok k (between t f e))

@@ -2,7 +2,7 @@
 use mathlib.Core.Path.{_≡_, refl, sym, ap, subst, subst₂, _∙_}
 use mathlib.Core.Bool.{Bool, true, false, false≢true, true≢false}
 use mathlib.Core.List.{List, _++_}
-use Prim.Native.Nat.{ℕ, zero, suc, _+_, _-_, _≤_}
+use Prim.Native.Nat.{ℕ, _+_, _-_, _≤_}
 use native.Mathlib.Omega.{arith}
 use lib.ListN.{length, take, drop, replicate, replicate-append-replicate}
 use lib.Seq.{take-at, drop-drop, length-take-le}
@@ -15,6 +15,7 @@ use Rattle.definition.proofs.Plain.{Good}
 use Rattle.definition.proofs.Sweep.{sweep}
 use Rattle.definition.proofs.SweepIf.{if-goes, ifs-swept}
 use Rattle.definition.proofs.SweepDo.{do-goes, loops-swept}
+use Rattle.records.proofs.Padded.{drop-zeros}
 use Rattle.outline.specs.Rows.{linesOf}
 use Rattle.outline.specs.Spans.{spansOf}
 use Rattle.passes.specs.declared.sweeps.Passed.{Passed}
@@ -101,11 +102,6 @@ module _ {ls : List Line} {l : ℕ} {R : List ℕ} {n : ℕ} where
   unfolding isDone
   ended-deep Q T e (deeper q) = refl
   ended-deep Q T e (over H G w q k d) = absurd (false≢true (ap (λ (x : Swept). isDone (x .passed)) e))
-
-drop-zeros : (k n : ℕ) → _≡_ {A = List ℕ} (drop k (replicate n 0)) (replicate (n - k) 0)
-drop-zeros zero n = let e : n - 0 ≡ n = omega arith in ap (λ (x : ℕ). replicate x 0) (sym e)
-drop-zeros (suc k) zero = let e : 0 - suc k ≡ 0 = omega arith in ap (λ (x : ℕ). replicate x 0) (sym e)
-drop-zeros (suc k) (suc n) = let e : suc n - suc k ≡ n - k = omega arith in drop-zeros k n ∙ ap (λ (x : ℕ). replicate x 0) (sym e)
 
 -- further behind there are zeros too
 zeros-on : (R : List ℕ) (N n m : ℕ) → n ≤ m → drop n R ≡ replicate (N - n) 0 → drop m R ≡ replicate (N - m) 0

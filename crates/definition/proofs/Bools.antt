@@ -2,7 +2,8 @@
 use mathlib.Core.Path.{_≡_, refl, sym, subst}
 use mathlib.Core.Bool.{Bool, true, false, cond, _&&_, _||_, false≢true, true≢false}
 use mathlib.Core.Option.{Option, none, some, Option·none-ne-some, Option·some-injective}
-use Prim.Native.Nat.{ℕ}
+use Prim.Native.Nat.{ℕ, _<_}
+use native.Mathlib.Omega.{arith}
 use native.Mathlib.Decide.{ℕ-discrete}
 use borrow.Author.Tests.{eq-eqb, ne-eqb}
 use lib.Dec.{eqb}
@@ -51,6 +52,11 @@ by-cond P false f g = g refl
 pub cond-some {ℓ κ} : {A : Type ℓ} (P : A → Type κ) (b : Bool) {x t : A} {o : Option A} → (b ≡ true → P x) → (o ≡ some t → P t) → cond b (some x) o ≡ some t → P t
 cond-some P true f g e = subst P (Option·some-injective _ _ e) (f refl)
 cond-some P false f g e = g e
+
+-- a number that is not 0 was not chosen
+pub passed : (b : Bool) (n m : ℕ) → 0 < n → cond b n m ≡ 0 → (b ≡ false) × (m ≡ 0)
+passed true n m h e = absurd (omega arith)
+passed false n m h e = (refl, e)
 
 pub eqb-swap : (x y : ℕ) → eqb x y ≡ eqb y x
 eqb-swap x y = go (ℕ-discrete x y)

@@ -10,7 +10,7 @@ use Rattle.definition.specs.Ssa.Expr.{Const, Use, Bin, Un, Load, Opaque}
 use Rattle.definition.proofs.Bools.{both-true}
 use Rattle.definition.proofs.TextLaws.{same-eq}
 
-eqv-true : (v u : Value) → eqv v u ≡ true → v ≡ u
+pub eqv-true : (v u : Value) → eqv v u ≡ true → v ≡ u
 unfolding eqv
 eqv-true v u h =
     let q = both-true (eqb (v .reg) (u .reg)) (eqb (v .ver) (u .ver)) h in

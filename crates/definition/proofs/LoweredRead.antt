@@ -54,7 +54,7 @@ text-ends E f w h = go (E .sections) w h
     go [] w h = absurd (false≢true w)
     go (t ∷ ts) w h = let z : suc (length ts) - 1 ≡ 0 + length ts = omega arith in rw z (adjoin-end f (contents E) 0 t ts w h)
 
-below-at : (n : ℕ) (p : ℕ → Bool) → allBelow n p ≡ true → (i : ℕ) → i < n → p i ≡ true
+pub below-at : (n : ℕ) (p : ℕ → Bool) → allBelow n p ≡ true → (i : ℕ) → i < n → p i ≡ true
 unfolding allBelow
 below-at zero p h i l = absurd (omega arith)
 below-at (suc n) p h i l =

@@ -150,9 +150,6 @@ done-steps (whole s e) = (s, e)
 pub ifs-done : (low ls : List Line) (n : ℕ) → Fits low → structureIfs low ≡ done n ls → Steps ifStep low n ls × (ifStep ls ≡ none)
 ifs-done low ls n f e = done-steps (subst (Ends ifStep low) e (if-ends low f))
 
-pub loops-done : (low ls : List Line) (n : ℕ) → Fits low → structureDoWhile low ≡ done n ls → Steps doStep low n ls × (doStep ls ≡ none)
-loops-done low ls n f e = done-steps (subst (Ends doStep low) e (do-ends low f))
-
 -- each region takes one conditional jump
 if-few : {low ls : List Line} {n : ℕ} → Steps ifStep low n ls → Fits low → n + conds ls ≡ conds low
 if-few = steps-conds ifStep if-keeps if-fewer

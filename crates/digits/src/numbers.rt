@@ -5,7 +5,7 @@ ghost use mathlib.Core.Path.{_≡_};
 ghost use mathlib.Core.List.{_++_};
 ghost use Prim.Native.Nat.{_≤_, _<_};
 ghost use lib.ListN.{length};
-ghost use Rattle.definition.specs.Numbers.{digit as digitOf, decimal as decimalOf, hex as hexOf, HEX, num as numOf, slot as slotOf, label as labelOf, outward as outwardOf};
+ghost use Rattle.definition.specs.Numbers.{digit as digitOf, HEX, num as numOf, slot as slotOf, label as labelOf, outward as outwardOf};
 ghost use Rattle.definition.specs.Render.{pointer as pointerOf};
 ghost use Rattle.digits.specs.Leaf.{Leaf};
 ghost use Rattle.digits.specs.Numeral.{baseOf, tenOf, numeral, filled};
@@ -107,18 +107,6 @@ pub fn behind(dst: &mut [u8], front: &[u8], x: Radix, v: u64) -> Wrote
     };
     copy(dst, front);
     Wrote::Bytes(n + m)
-}
-
-pub fn decimal(dst: &mut [u8], v: u64) -> Wrote
-    ensures { λ r. ⌜ Leaf (decimalOf v) (now (dst .entry)) r (now (dst .exit)) ⌝ }
-{
-    digits(dst, Radix::Decimal, v)
-}
-
-pub fn hex(dst: &mut [u8], v: u64) -> Wrote
-    ensures { λ r. ⌜ Leaf (hexOf v) (now (dst .entry)) r (now (dst .exit)) ⌝ }
-{
-    digits(dst, Radix::Lower, v)
 }
 
 pub fn hex_upper(dst: &mut [u8], v: u64) -> Wrote

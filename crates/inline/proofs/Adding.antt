@@ -18,12 +18,11 @@ use Rattle.definition.specs.Values.{Value, eqv}
 use Rattle.records.proofs.Also.{and-both}
 use Rattle.records.proofs.Items.{size-small}
 use Rattle.records.proofs.Below.{sum-start, sum-turn, sum-le}
+use Rattle.records.proofs.Ranges.{gather-append, range-parts}
 use Rattle.values.specs.Keys.{placesOf}
 use Rattle.values.specs.Tables.{at, table}
-use Rattle.values.proofs.Ranges.{range-parts}
 use Rattle.values.proofs.Tables.{table-same, table-zero}
 use Rattle.values.proofs.Placed.{keyed-length}
-use Rattle.reads.proofs.Statements.{gather-append}
 use Rattle.inline.specs.Search.{laterRead, single}
 use Rattle.inline.specs.Placing.{Placed, placedAt, placedIn, allPlaced, placeIn, placeOf, Adds, Told}
 use Rattle.inline.specs.declared.later.Later.{Later}

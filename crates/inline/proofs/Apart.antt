@@ -14,14 +14,14 @@ use Rattle.definition.specs.Owners.{blockStmts, firstStmt}
 use Rattle.definition.specs.Shape.{owned}
 use Rattle.definition.specs.Values.{Value, eqv}
 use Rattle.definition.specs.Meaning.{phiValue, assigned, strict, loose, definedOnce}
-use Rattle.definition.proofs.Bools.{by-test, both-true, or-cases, eqb-swap}
+use Rattle.definition.proofs.Bools.{by-test, both-true, or-cases}
 use Rattle.definition.proofs.ListLaws.{Each, end, _▸_, each-to, bit, count-cons, count-append, any-none}
 use Rattle.meaning.specs.Defined.{lone}
 use Rattle.meaning.proofs.Defining.{once-is}
 use Rattle.records.proofs.Also.{and-both}
-use Rattle.values.proofs.Ranges.{range-parts}
-use Rattle.values.proofs.Tables.{eqv-true, eqv-refl}
-use Rattle.reads.proofs.Statements.{gather-append}
+use Rattle.records.proofs.Ranges.{gather-append, range-parts}
+use Rattle.definition.proofs.Equal.{eqv-true}
+use Rattle.values.proofs.Tables.{eqv-refl, eqv-swap}
 use Rattle.inline.specs.Placing.{Placed, placedAt, placedIn, allPlaced, placeIn, placeOf}
 use Rattle.inline.proofs.AtStatement.{target, placed-by}
 use Rattle.inline.proofs.Adding.{gather-last, owned-stmts}
@@ -29,10 +29,6 @@ use Rattle.inline.proofs.Adding.{gather-last, owned-stmts}
 -- the place is of v
 abbrev pub holds : Value → Placed → Bool
 holds v p = eqv (p .is .of) v
-
-eqv-swap : (a b : Value) → eqv a b ≡ eqv b a
-unfolding eqv
-eqv-swap a b = rw (eqb-swap (a .reg) (b .reg), eqb-swap (a .ver) (b .ver))
 
 -- ---- what is defined once
 all-any : (p : Value → Bool) (v : Value) (vs : List Value) → all p vs ≡ true → any (eqv v) vs ≡ true → p v ≡ true

@@ -11,7 +11,6 @@ use Rattle.definition.specs.Edition.{Edition}
 use Rattle.definition.specs.Owners.{stmtKind, stmtField}
 use Rattle.definition.specs.Values.{Value, value}
 use Rattle.definition.specs.Ssa.{Expr, Kind, Stmt}
-use Rattle.definition.specs.Ssa.Kind.{Assign}
 use Rattle.definition.specs.Read.{treeAt, allTrees, kindAt, marked, stmtAt, read}
 use Rattle.definition.specs.Inline.{Reads, InPlace, readsOf, readOnce, readLater, hasLoad, placeKind}
 use Rattle.definition.proofs.Bools.{by-cond, by-test}

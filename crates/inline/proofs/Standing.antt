@@ -13,7 +13,7 @@ use Rattle.definition.specs.Values.{Value, eqv}
 use Rattle.definition.specs.Read.{marked}
 use Rattle.definition.proofs.Bools.{by-test}
 use Rattle.definition.proofs.ListLaws.{Each, end, _▸_}
-use Rattle.values.proofs.Tables.{eqv-true}
+use Rattle.definition.proofs.Equal.{eqv-true}
 use Rattle.inline.specs.Placing.{Placed, allPlaced, placeIn, placeOf}
 use Rattle.inline.proofs.AtStatement.{target}
 use Rattle.inline.proofs.Forgetting.{Stands, stand}

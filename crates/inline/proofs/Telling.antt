@@ -27,6 +27,7 @@ use Rattle.values.specs.Tables.{at, table}
 use Rattle.values.proofs.Tables.{table-read, table-write}
 use Rattle.values.proofs.Placed.{at-stmt, keyed-length, stmt-here}
 use Rattle.reads.specs.Counts.{lastReader}
+use Rattle.reads.proofs.ReadAtAll.{bit-not}
 use Rattle.inline.specs.Search.{reached, laterRead, single}
 use Rattle.inline.specs.Placing.{behind, placedAt, Told}
 use Rattle.inline.specs.declared.later.Later.{Later}
@@ -36,10 +37,6 @@ use Rattle.inline.proofs.AtStatement.{target, source, placing, placed-d
 use Rattle.inline.proofs.OneReader.{one-reader}
 
 -- ---- what a bit says
-bit-zero : (b : Bool) → eqb (cond b 1 0) 0 ≡ not b
-bit-zero true = refl
-bit-zero false = refl
-
 bit-one : (b : Bool) → eqb (cond b 1 0) 1 ≡ b
 bit-one true = refl
 bit-one false = refl
@@ -108,7 +105,7 @@ module _ (f numbers live phi readers loads : List ℕ) (told : Told f numbers li
           assigns,
           tells (λ v. cond (within v (phiReads (read E f))) 1 0) phi (told .flows E),
           tells (λ v. count (eqv v) (reads (read E f))) live (told .times E),
-          bit-zero (within (target f i) (phiReads (read E f))),
+          bit-not (within (target f i) (phiReads (read E f))),
         )
 
   -- what the tests of the code tell

@@ -6,9 +6,9 @@ use crate::later::later_read;
 use meaning::value::RSP;
 use records::contents::BLOCKS;
 use records::contents::size_of;
-use records::contents::stmt_word;
 use records::owners::ASSIGN;
 use records::owners::block_stmts;
+use records::owners::is_dead;
 use records::owners::stmt_field;
 use records::owners::stmt_kind;
 use values::places::places_of;
@@ -37,7 +37,7 @@ fn number_of(f: &[u8], numbers: &[u32], i: u32) -> usize
 fn read_once(f: &[u8], live: &[u32], phi: &[u32], i: u32, n: usize) -> bool
     ensures { λ r. ⌜ r ≡ single (now (f .entry)) i (at (now (phi .entry)) n) (at (now (live .entry)) n) ⌝ }
 {
-    if stmt_word(f, i, 2) % 2 == 1 {
+    if is_dead(f, i) {
         return false;
     }
     if stmt_kind(f, i) != ASSIGN {

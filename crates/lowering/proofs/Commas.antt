@@ -2,10 +2,12 @@
 use mathlib.Core.Path.{_≡_, refl, sym, ap, ap₂, _∙_}
 use mathlib.Core.Bool.{Bool, true, false}
 use mathlib.Core.List.{List, [], _∷_, _++_, map}
-use Prim.Native.Nat.{ℕ, zero, suc, _+_, _-_, _≤_, _<_}
+use Prim.Native.Nat.{ℕ, suc, _+_, _-_, _≤_, _<_}
 use native.Mathlib.Omega.{arith}
 use lib.Dec.{ltb}
-use borrow.Author.Tests.{lt-ltb, le-ltb}
+use lib.ListN.{take}
+use lib.Seq.{take-all}
+use borrow.Author.Tests.{lt-ltb, le-ltb, ltb-true, ltb-false}
 use Rattle.definition.specs.Edition.{Edition, statements}
 use Rattle.definition.specs.Texts.{txt}
 use Rattle.definition.specs.Lists.{gather, range}
@@ -15,11 +17,14 @@ use Rattle.definition.specs.Read.{treeAt, allTrees}
 use Rattle.definition.specs.Tokens.{Token, punct}
 use Rattle.definition.specs.Render.{e}
 use Rattle.definition.specs.Lower.{commaList}
+use Rattle.definition.proofs.Bools.{by-test, by-cond}
+use Rattle.records.proofs.Editions.{length-range}
+use Rattle.records.proofs.Ranges.{shift, take-less, take-map}
 use Rattle.room.specs.Room.{Room, emit, emitAll, seen}
-use Rattle.room.proofs.Laws.{more, done}
+use Rattle.room.proofs.Laws.{more, done, pieces-are}
 use Rattle.render.specs.Gens.{rendered}
 use Rattle.lowering.specs.Lowered.{loweringOf, exprOf}
-use Rattle.lowering.specs.Commas.{comma, argOf, argsOf, treesOf, listed}
+use Rattle.lowering.specs.Commas.{comma, argOf, argsOf, treesOf, listed, least}
 use Rattle.lowering.proofs.Gen.{rendered-is}
 
 -- ---- the sign between
@@ -31,22 +36,11 @@ pub comma-none : (r : Room) (b : Bool) → b ≡ false → r ≡ emitAll r (comm
 unfolding comma emitAll
 comma-none r b e = rw e
 
--- the same pieces, named otherwise
-pub pieces-are : (r r₀ : Room) (ps qs : List Token) → seen r ≡ seen (emitAll r₀ ps) → ps ≡ qs → seen r ≡ seen (emitAll r₀ qs)
-pieces-are r r₀ ps qs h p = rw (← p) h
-
 -- no pieces
 pub none-are : (r : Room) (qs : List Token) → qs ≡ [] → seen r ≡ seen (emitAll r qs)
 none-are r qs p = pieces-are r r [] qs (done r) (sym p)
 
--- ---- numbers of a range, from another start
-shift : (g : ℕ → ℕ) (a b n : ℕ) → map (λ k. g (a + k)) (range b n) ≡ map g (range (a + b) n)
-unfolding range
-shift g a b zero = refl
-shift g a b (suc n) =
-    let p : a + (b + 1) ≡ a + b + 1 = omega arith in
-    ap (λ (l : List ℕ). g (a + b) ∷ l) (shift g a (b + 1) n ∙ ap (λ (m : ℕ). map g (range m n)) p)
-
+-- ---- list items
 pub listed-is : (f : List ℕ) (a n : ℕ) → map (λ k. itemWord f (a + k) 0) (range 0 n) ≡ listed f a n
 unfolding listed
 listed-is f a n =
@@ -60,6 +54,33 @@ listed-cons f a n = refl
 pub listed-none : (f : List ℕ) (a : ℕ) → listed f a 0 ≡ []
 unfolding listed range
 listed-none f a = refl
+
+-- ---- the first of them
+module _ (a b : ℕ) where
+  pub least-left : a < b → a ≡ least a b
+  unfolding least
+  least-left h = rw (lt-ltb a b h)
+
+  pub least-right : b ≤ a → b ≡ least a b
+  unfolding least
+  least-right h = rw (le-ltb a b h)
+
+  pub least-le : least a b ≤ b
+  unfolding least
+  least-le = by-cond (λ x. x ≤ b) (ltb a b) (λ h. omega (arith, ltb-true a b h)) (λ h. omega arith)
+
+take-range : (c a n : ℕ) → take c (range a n) ≡ range a (least c n)
+unfolding least
+take-range c a n =
+    by-test (ltb c n) (λ h. rw h (take-less c a n (omega (arith, ltb-true c n h))))
+    (λ h. rw h (take-all c (range a n) (omega (arith, length-range a n, ltb-false c n h))))
+
+pub take-listed : (E : Edition) (f : List ℕ) (c a n : ℕ) → take c (treesOf E f (listed f a n)) ≡ treesOf E f (listed f a (least c n))
+unfolding treesOf listed
+take-listed E f c a n =
+    let word : ℕ → ℕ = (λ (k : ℕ). itemWord f k 0) in
+    take-map (treeAt (allTrees E f)) c (map word (range a n))
+    ∙ ap (λ (l : List ℕ). map (treeAt (allTrees E f)) l) (take-map word c (range a n) ∙ ap (λ (l : List ℕ). map word l) (take-range c a n))
 
 module _ (E : Edition) (f : List ℕ) where
   -- ---- as the definition has them

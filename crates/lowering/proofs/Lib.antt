@@ -1,3 +1,4 @@
 pub mod Gen
 pub mod Commas
+pub mod Lines
 pub mod Unique

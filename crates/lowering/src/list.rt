@@ -1,4 +1,5 @@
 // Expressions with `, ` between them.
+use crate::kinds::PUNCT;
 use records::contents::STATEMENTS;
 use records::contents::item_word;
 use records::contents::size_of;
@@ -17,9 +18,17 @@ ghost use Rattle.definition.specs.Lower.{commaList};
 ghost use Rattle.room.specs.Room.{roomOf, emitAll, seen};
 ghost use Rattle.render.specs.Told.{Told};
 ghost use Rattle.lowering.specs.Lowered.{loweringOf};
-ghost use Rattle.lowering.specs.Commas.{comma, argOf};
+ghost use Rattle.lowering.specs.Commas.{comma, argOf, least};
 
-const PUNCT: u32 = 6;
+// The lesser of two numbers.
+pub fn least_of(a: u32, b: u32) -> u32
+    ensures { λ r. ⌜ r ≡ least a b ⌝ }
+{
+    if a < b {
+        return a;
+    }
+    b
+}
 
 // Before an expression that is not the first.
 fn put_comma(tokens: &mut [u64], text: &mut [u8], out: Out, more: bool) -> Out

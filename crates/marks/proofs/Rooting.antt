@@ -21,6 +21,7 @@ use Rattle.definition.specs.Blocks.{isSave, readRoots}
 use Rattle.definition.specs.Listing.{padded}
 use Rattle.definition.proofs.Bools.{by-cond}
 use Rattle.definition.proofs.ListLaws.{Each, end}
+use Rattle.records.proofs.Ranges.{map-gather, gather-only}
 use Rattle.values.specs.declared.places.Places.{Places}
 use Rattle.values.specs.Keys.{keyOf, placesOf, keyed}
 use Rattle.values.specs.Tables.{at, numberOf, numbered, table}
@@ -37,7 +38,6 @@ use Rattle.reads.proofs.Visits.{stmt-run}
 use Rattle.reads.proofs.Named.{Names, mark-all, uses-named}
 use Rattle.names.proofs.Tied.{Mentions, root-number}
 use Rattle.names.proofs.Rooted.{rooted}
-use Rattle.names.proofs.Spots.{map-gather, gather-only}
 use Rattle.offsets.specs.Ground.{Ground}
 use Rattle.marks.specs.Reading.{classed, reading, ReadRoots}
 

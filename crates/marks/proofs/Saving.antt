@@ -2,16 +2,13 @@
 -- whose address has an offset.
 use mathlib.Core.Path.{_≡_, refl, sym, ap, _∙_}
 use mathlib.Core.Bool.{Bool, true, false, not, cond, _&&_, _||_}
-use mathlib.Core.List.{List, [], _∷_}
-use Prim.Native.Nat.{ℕ, zero, suc, _%_, _≤_, _<_}
+use mathlib.Core.List.{List, []}
+use Prim.Native.Nat.{ℕ, _≤_, _<_}
 use native.Mathlib.Decide.{ℕ-discrete}
-use native.Mathlib.Omega.{arith}
 use lib.Dec.{eqb, ltb}
-use lib.ListN.{length, length-append, List·getD-append, List·getD-eq-default}
-use lib.Seq.{getD-at}
 use borrow.Author.Tests.{ltb-true, ltb-false, eq-eqb, ne-eqb, lt-ltb, le-ltb}
 use Rattle.definition.specs.Edition.{Edition, expressions}
-use Rattle.definition.specs.Contents.{size, exprWord, stmtWord}
+use Rattle.definition.specs.Contents.{size, exprWord}
 use Rattle.definition.specs.Owners.{stmtKind, stmtField}
 use Rattle.definition.specs.Ssa.{Expr}
 use Rattle.definition.specs.Ssa.Expr.{Opaque}
@@ -21,7 +18,7 @@ use Rattle.definition.specs.Registers.{calleeSaved}
 use Rattle.definition.specs.Lower.{isSaved, saves}
 use Rattle.definition.specs.Blocks.{isSave}
 use Rattle.definition.proofs.Bools.{by-test}
-use Rattle.reads.proofs.Visits.{dead-is}
+use Rattle.records.proofs.Trees.{tree-lower, tree-past}
 use Rattle.marks.specs.Reading.{savedUse, savedAt}
 
 -- ---- is an expression a callee-saved register's entry value
@@ -59,33 +56,17 @@ module _ (E : Edition) (f : List ℕ) where
       go (no a) (no b) (no c) (no d) (no g) =
           rw (ne-eqb (exprWord f n 0) 1 a, ne-eqb (exprWord f n 0) 2 b, ne-eqb (exprWord f n 0) 3 c, ne-eqb (exprWord f n 0) 4 d, ne-eqb (exprWord f n 0) 5 g)
 
-  trees-long : (n : ℕ) → length (trees E f n) ≡ n
-  unfolding trees
-  trees-long zero = refl
-  trees-long (suc n) = omega (arith, length-append (trees E f n) (tree E f (trees E f n) n ∷ []), trees-long n)
-
   no-tree : isSaved (Opaque []) ≡ false
   unfolding isSaved
   no-tree = refl
-
-  saved-below : (n i : ℕ) → i < n → isSaved (treeAt (trees E f n) i) ≡ savedUse f i
-  unfolding trees
-  saved-below zero i h = absurd (omega arith)
-  saved-below (suc n) i h =
-      let t = trees E f n in
-      let l = trees-long n in
-      let below = saved-below n i in
-      by-test (ltb i n)
-      (λ e. let b = ltb-true i n e in ap isSaved (List·getD-append t (tree E f t n ∷ []) (Opaque []) i (omega arith)) ∙ below b)
-      (λ e. let q : i ≡ n = omega (arith, ltb-false i n e) in ap isSaved (getD-at t (tree E f t n) [] (Opaque []) i (l ∙ sym q)) ∙ saved-node t n ∙ ap (savedUse f) (sym q))
 
   saved-tree : (n : ℕ) → isSaved (treeAt (allTrees E f) n) ≡ savedAt f n
   unfolding allTrees savedAt
   saved-tree n =
       let m = size f expressions in
       by-test (ltb n m)
-      (λ e. rw e (saved-below m n (ltb-true n m e)))
-      (λ e. rw e (ap isSaved (List·getD-eq-default (trees E f m) (Opaque []) (omega (arith, trees-long m, ltb-false n m e))) ∙ no-tree))
+      (λ e. rw e (ap isSaved (tree-lower E f m n (ltb-true n m e)) ∙ saved-node (trees E f n) n))
+      (λ e. rw e (ap isSaved (tree-past E f m n (ltb-false n m e)) ∙ no-tree))
 
   -- ---- statements
   save-is : (k : List Known) (i : ℕ) → isSave k (kindAt E f (allTrees E f) i)
@@ -118,8 +99,8 @@ module _ (E : Edition) (f : List ℕ) where
       save-there a o h e p = sym (save-is k i ∙ rw (← kind, eq-eqb g 2 store, ← value, sym says ∙ h, ← e, ← p))
 
 -- ---- dead, or a save
-pub over-dead : (f : List ℕ) (i w : ℕ) (s : Bool) → w ≡ stmtWord f i 2 → w % 2 ≡ 1 → true ≡ (marked f i 1 || s)
-over-dead f i w s e h = rw (sym (dead-is f i w e) ∙ eq-eqb (w % 2) 1 h)
+pub over-dead : (f : List ℕ) (i : ℕ) (d s : Bool) → d ≡ marked f i 1 → d ≡ true → true ≡ (marked f i 1 || s)
+over-dead f i d s e h = rw (sym e ∙ h)
 
-pub over-save : (f : List ℕ) (i w : ℕ) (r s : Bool) → w ≡ stmtWord f i 2 → (w % 2 ≡ 1 → ⊥) → r ≡ s → r ≡ (marked f i 1 || s)
-over-save f i w r s e h p = p ∙ rw (sym (dead-is f i w e) ∙ ne-eqb (w % 2) 1 h)
+pub over-save : (f : List ℕ) (i : ℕ) (d r s : Bool) → d ≡ marked f i 1 → d ≡ false → r ≡ s → r ≡ (marked f i 1 || s)
+over-save f i d r s e h p = rw (sym e ∙ h) p

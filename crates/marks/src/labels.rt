@@ -48,7 +48,7 @@ fn label_at(tab: &mut [u32], f: &[u8], a: u64)
 }
 
 // Is a the start of the block behind b.
-fn is_next(f: &[u8], b: u32, a: u64) -> bool
+pub fn is_next(f: &[u8], b: u32, a: u64) -> bool
     requires { ⌜ b < size (now f) blocks ⌝ }
     ensures { λ r. ⌜ r ≡ isNext (nextAt (now (f .entry)) b) a ⌝ }
 {

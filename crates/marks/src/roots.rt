@@ -1,15 +1,8 @@
 // Which classes are really read: by a live statement that is no save of a callee-saved register's entry value to its stack slot.
-use offsets::address::stack_off;
-use records::contents::EXPRESSIONS;
+use crate::saves::is_save;
 use records::contents::STATEMENTS;
-use records::contents::expr_word;
 use records::contents::size_of;
-use records::contents::stmt_word;
-use records::owners::STORE;
-use records::owners::USE;
-use records::owners::stmt_field;
-use records::owners::stmt_kind;
-use text::registers::Register;
+use records::owners::is_dead;
 use values::places::Places;
 use values::places::places_of;
 use values::read::at_u32;
@@ -29,41 +22,7 @@ ghost use Rattle.values.specs.Tables.{table};
 ghost use Rattle.reads.specs.Orders.{Ordered};
 ghost use Rattle.reads.specs.Counts.{visit, slots, between};
 ghost use Rattle.offsets.specs.Ground.{Ground};
-ghost use Rattle.marks.specs.Reading.{savedAt, classed, reading, ReadRoots};
-
-// Is expression n a callee-saved register's entry value.
-fn is_saved(f: &[u8], n: u32) -> bool
-    ensures { λ r. ⌜ r ≡ savedAt (now (f .entry)) n ⌝ }
-{
-    if n >= size_of(f, EXPRESSIONS) {
-        return false;
-    }
-    if expr_word(f, n, 0) != USE {
-        return false;
-    }
-    if expr_word(f, n, 2) != 0 {
-        return false;
-    }
-    let x = Register {
-        number: expr_word(f, n, 1),
-    };
-    x.callee_saved()
-}
-
-// Is statement i a save.
-fn is_save(offsets: &[u64], f: &[u8], t: u32, numbers: &[u32], places: Places, i: u32) -> bool
-    requires { ⌜ Ground (now f) (now numbers) places ⌝ }
-    ensures { λ r. ⌜ ((E : Edition) (k : List Known) → text E ≡ t → now (offsets .entry) ≡ table (now (f .entry)) (length (now (numbers .entry))) (look k)
-        → r ≡ isSave k (kindAt E (now (f .entry)) (allTrees E (now (f .entry))) i)) ⌝ }
-{
-    if stmt_kind(f, i) != STORE {
-        return false;
-    }
-    if is_saved(f, stmt_field(f, i, 2)) {
-        return stack_off(offsets, f, t, numbers, places, stmt_field(f, i, 1)) != 0;
-    }
-    false
-}
+ghost use Rattle.marks.specs.Reading.{classed, reading, ReadRoots};
 
 // Does statement i read nothing that counts: it is dead, or a save.
 fn passed_over(offsets: &[u64], f: &[u8], t: u32, numbers: &[u32], places: Places, i: u32) -> bool
@@ -71,7 +30,7 @@ fn passed_over(offsets: &[u64], f: &[u8], t: u32, numbers: &[u32], places: Place
     ensures { λ r. ⌜ ((E : Edition) (k : List Known) → text E ≡ t → now (offsets .entry) ≡ table (now (f .entry)) (length (now (numbers .entry))) (look k)
         → r ≡ (marked (now (f .entry)) i 1 || isSave k (kindAt E (now (f .entry)) (allTrees E (now (f .entry))) i))) ⌝ }
 {
-    if stmt_word(f, i, 2) % 2 == 1 {
+    if is_dead(f, i) {
         return true;
     }
     is_save(offsets, f, t, numbers, places, i)

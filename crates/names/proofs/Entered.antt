@@ -1,6 +1,6 @@
 -- What is ticked is what live statements really read at entry, and the parameters are the argument registers up to the last of these.
 use mathlib.Core.Path.{_≡_, refl, sym, ap, ap₂, _∙_}
-use mathlib.Core.Bool.{Bool, true, false, not, cond, _&&_, _||_, or-false, or-assoc, true≢false, false≢true}
+use mathlib.Core.Bool.{Bool, true, false, not, cond, _||_, or-false, or-assoc, true≢false, false≢true}
 use mathlib.Core.List.{List, [], _∷_, _++_, map, map-append}
 use Prim.Native.Nat.{ℕ, zero, suc, _+_, _<_}
 use native.Mathlib.Decide.{ℕ-discrete}
@@ -21,26 +21,24 @@ use Rattle.definition.specs.Ssa.{Expr, Stmt, uses}
 use Rattle.definition.specs.Read.{allTrees, kindAt, marked, stmtAt, read}
 use Rattle.definition.specs.Inline.{live}
 use Rattle.definition.specs.Names.{byConvention, entryReads, upToLast, params}
-use Rattle.definition.proofs.Bools.{by-test, by-cond, eqb-swap, or-right}
+use Rattle.definition.proofs.Bools.{by-test, by-cond, or-right}
 use Rattle.definition.proofs.ListLaws.{Each, end, _▸_}
+use Rattle.records.proofs.Ranges.{range-last, map-gather}
 use Rattle.values.specs.Tables.{at, numbered, table}
-use Rattle.values.proofs.Tables.{table-same, table-zero}
+use Rattle.values.proofs.Tables.{table-same, eqv-swap, zeros-are}
 use Rattle.values.proofs.Placed.{keyed-length}
 use Rattle.values.proofs.Ranges.{map-length}
-use Rattle.reads.proofs.Statements.{gather-same, range-last, stmts-are}
+use Rattle.reads.proofs.Statements.{gather-same, stmts-are}
+use Rattle.reads.proofs.ReadAtAll.{bit-so}
 use Rattle.names.specs.Codes.{coded}
 use Rattle.names.specs.Walk.{Spot, useSpots, entrySpots, ticked, upTo}
 use Rattle.names.specs.Given.{Numbered, EntryRead, entryTable}
 use Rattle.names.proofs.Tied.{Mentions, coded-read, coded-write}
-use Rattle.names.proofs.Spots.{valuesOf, map-gather, use-values}
+use Rattle.names.proofs.Spots.{valuesOf, use-values}
 use Rattle.names.proofs.Mentioned.{each-runs, arg-named, uses-right}
 use Rattle.names.proofs.Params.{isRead}
 
 -- ---- what is ticked
-eqv-swap : (v w : Value) → eqv v w ≡ eqv w v
-unfolding eqv
-eqv-swap v w = ap₂ (λ (a b : Bool). a && b) (eqb-swap (v .reg) (w .reg)) (eqb-swap (v .ver) (w .ver))
-
 module _ (f : List ℕ) (n : ℕ) where
   ticked-are : (xs : List Spot) → Each (λ (x : Spot). Mentions f n (x .place) (x .of)) xs → (g : Value → ℕ)
       → ticked (numbered f n) (table f n g) xs ≡ table f n (λ w. cond (within w (valuesOf xs)) 1 (g w))
@@ -147,10 +145,6 @@ unfolding upTo
 up-same p q zero h = refl
 up-same p q (suc n) h = ap₂ (λ (b : Bool) (m : ℕ). cond b (suc n) m) (h n (omega arith)) (up-same p q n (λ j k. h j (omega arith)))
 
-bit-back : (b : Bool) → not (eqb (cond b 1 0) 0) ≡ b
-bit-back true = refl
-bit-back false = refl
-
 pub params-first : (E : Edition) (f : List ℕ) → params (read E f) ≡ map (argAt f) (range 0 (length (params (read E f))))
 unfolding params read argRegs
 params-first E f = first-ones (λ a. any (eqv (value a 0)) (entryReads (read E f))) (argAt f) 0 (size f args)
@@ -164,12 +158,8 @@ module _ (f : List ℕ) (bytes : (k : ℕ) → Fits w8 (getD f k 0)) (ns : List 
       up-same (isRead ns es) (λ j. q (argAt f j)) (size f args)
       (λ j h. ap₂ (λ (t u : List ℕ). not (eqb (at t (at u j)) 0)) e (given .are)
       ∙ ap (λ (x : ℕ). not (eqb x 0)) (coded-read f n j (value (argAt f j) 0) (arg-named f bytes (given .own) n (given .room) j h) (λ v. cond (any (eqv v) (entryReads (read E f))) 1 0))
-      ∙ bit-back (q (argAt f j)))
+      ∙ bit-so (q (argAt f j)))
       ∙ sym (count-is q (argAt f) (size f args))
-
-  -- a cleared table
-  pub zeros-are : replicate (length ns) 0 ≡ table f (length ns) (λ v. 0)
-  zeros-are = ap (λ (m : ℕ). replicate m 0) (sym (keyed-length f (length ns) (given .own) (given .room))) ∙ sym (table-zero f (length ns))
 
   -- the table that entry_reads leaves
   pub entry-table : (t r : List ℕ) → t ≡ replicate (length ns) 0 → r ≡ ticked ns t (gather (entrySpots f) (range 0 (size f statements))) → EntryRead f (length ns) r
@@ -177,7 +167,7 @@ module _ (f : List ℕ) (bytes : (k : ℕ) → Fits w8 (getD f k 0)) (ns : List 
   entry-table t r z e = record {
     says = λ E.
         e ∙ ap₂ (λ (u s : List ℕ). ticked u s (gather (entrySpots f) (range 0 (size f statements)))) (given .are)
-        (z ∙ zeros-are)
+        (z ∙ zeros-are f (length ns) (keyed-length f (length ns) (given .own) (given .room)))
         ∙ ticked-are f (length ns) (gather (entrySpots f) (range 0 (size f statements)))
         (each-runs (λ (x : Spot). Mentions f (length ns) (x .place) (x .of)) (entrySpots f) 0 (size f statements)
         (λ i h. by-cond (Each (λ (x : Spot). Mentions f (length ns) (x .place) (x .of))) (marked f i 1 || (eqb (stmtKind f i) 3 || eqb (stmtKind f i) 4)) (λ b. end)

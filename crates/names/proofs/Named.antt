@@ -18,7 +18,7 @@ use Rattle.definition.specs.Inline.{readsOf, inline, inPlace}
 use Rattle.definition.specs.Names.{params, blockKeys}
 use Rattle.values.specs.Keys.{keyOf, keyed}
 use Rattle.values.specs.Tables.{numberOf, numbered, table}
-use Rattle.values.proofs.Tables.{table-same}
+use Rattle.values.proofs.Tables.{table-same, zeros-are}
 use Rattle.values.proofs.Placed.{keyed-length}
 use Rattle.names.specs.Codes.{coded, paramCodes, codeKeys, codeStart, nameCode}
 use Rattle.names.specs.Walk.{State, known, state, walked, spots, paramsSeen}
@@ -27,7 +27,7 @@ use Rattle.names.proofs.Tied.{Mentions, Tied, coded-write, root-number,
 use Rattle.names.proofs.Spots.{all-values}
 use Rattle.names.proofs.Mentioned.{arg-named, all-right}
 use Rattle.names.proofs.Rooted.{rooted}
-use Rattle.names.proofs.Entered.{params-first, zeros-are}
+use Rattle.names.proofs.Entered.{params-first}
 
 -- ---- the parameters' classes
 module _ (f : List ℕ) (n : ℕ) (root : Value → Value) (to : (p : ℕ) (v : Value) → Mentions f n p v → (q : ℕ) × Mentions f n q (root v)) (by : (i : ℕ) → i < size f args → Mentions f n i (value (argAt f i) 0)) where
@@ -76,9 +76,9 @@ module _ (f : List ℕ) (bytes : (k : ℕ) → Fits w8 (getD f k 0)) (ns roots p
     start-tied : Tied f n (state (replicate n 0) (paramsSeen ns roots r (replicate n 0)) 1) (codeStart root (params (read E f)))
     unfolding codeStart
     start-tied = record {
-      names = zeros-are f bytes ns given;
+      names = zeros-are f n (keyed-length f n (given .own) (given .room));
       seen = ap₂ (λ (a b : List ℕ). paramsSeen a b r (replicate n 0)) (given .are) (told .rooted)
-          ∙ ap (paramsSeen (numbered f n) (table f n (λ v. numberOf (keyed f n) (keyOf (root v)))) r) (zeros-are f bytes ns given)
+          ∙ ap (paramsSeen (numbered f n) (table f n (λ v. numberOf (keyed f n) (keyOf (root v)))) r) (zeros-are f n (keyed-length f n (given .own) (given .room)))
           ∙ seen-params f n root (rooted f bytes (given .own) n (given .room) E) (arg-named f bytes (given .own) n (given .room)) r (counted .few)
           ∙ ap (λ (m : ℕ). table f n (paramCodes root 1 (map (argAt f) (range 0 m)))) (counted .says E (told .entered))
           ∙ ap (λ (l : List ℕ). table f n (paramCodes root 1 l)) (sym (params-first E f));

@@ -1,22 +1,20 @@
 -- The places of a file and the counts of its owners are sums of words, so that the code's sums fit; what is owned comes out.
 use mathlib.Core.Path.{_≡_, refl, sym}
-use mathlib.Core.Bool.{true, _&&_}
+use mathlib.Core.Bool.{true}
 use mathlib.Core.List.{List}
 use Prim.Native.Nat.{ℕ, _+_, _≤_, _<_}
 use native.Mathlib.Omega.{arith}
-use lib.Dec.{eqb}
 use lib.ListN.{getD}
 use mir.Syntax.{w8}
 use mir.Val.{Fits}
-use borrow.Author.Tests.{eqb-true}
 use Rattle.definition.specs.Edition.{args, blocks, phis, inputs, statements, lists}
 use Rattle.definition.specs.Lists.{sumBelow}
 use Rattle.definition.specs.Contents.{size}
-use Rattle.definition.specs.Owners.{blockPhis, blockStmts, phiInputs, firstPhi, firstStmt, firstInput, firstItem}
+use Rattle.definition.specs.Owners.{blockPhis, blockStmts, phiInputs, firstPhi, firstStmt, firstInput}
 use Rattle.definition.specs.Shape.{owned}
-use Rattle.records.proofs.Also.{and-both}
 use Rattle.records.proofs.Below.{sum-turn, sum-le}
 use Rattle.records.proofs.Items.{size-small}
+use Rattle.reads.proofs.Statements.{owned-parts}
 use Rattle.values.specs.Keys.{placesOf}
 use Rattle.values.proofs.Placed.{owned-inputs}
 
@@ -43,16 +41,6 @@ module _ (f : List ℕ) (bytes : (k : ℕ) → Fits w8 (getD f k 0)) where
 
 -- ---- what blocks own
 module _ (f : List ℕ) (own : owned f ≡ true) where
-  owned-parts : (firstPhi f (size f blocks) ≡ size f phis) × (firstStmt f (size f blocks) ≡ size f statements)
-  unfolding owned
-  owned-parts =
-      let a = eqb (firstPhi f (size f blocks)) (size f phis) in
-      let b = eqb (firstStmt f (size f blocks)) (size f statements) in
-      let c = eqb (firstInput f (size f phis)) (size f inputs) in
-      let d = eqb (firstItem f (size f statements)) (size f lists) in
-      let e = and-both a b (and-both (a && b) c (and-both (a && b && c) d own .0) .0) in
-      (eqb-true (firstPhi f (size f blocks)) (size f phis) (e .0), eqb-true (firstStmt f (size f blocks)) (size f statements) (e .1))
-
   pub parts-next : (b : ℕ) → (firstPhi f (b + 1) ≡ firstPhi f b + blockPhis f b) × (firstStmt f (b + 1) ≡ firstStmt f b + blockStmts f b)
   unfolding firstPhi firstStmt
   parts-next b = (sym (sum-turn (blockPhis f) {i = b} refl refl), sym (sum-turn (blockStmts f) {i = b} refl refl))
@@ -62,7 +50,7 @@ module _ (f : List ℕ) (own : owned f ≡ true) where
   parts-below b h =
       let p = sum-turn (blockPhis f) {i = b} refl refl in
       let q = sum-turn (blockStmts f) {i = b} refl refl in
-      let o = owned-parts in
+      let o = owned-parts f own in
       (omega (arith, o .0, sum-le (blockPhis f) (b + 1) (size f blocks) (omega arith)), omega (arith, o .1, sum-le (blockStmts f) (b + 1) (size f blocks) (omega arith)))
 
   -- where the inputs of the phi behind i begin

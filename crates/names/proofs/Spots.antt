@@ -3,13 +3,13 @@ use mathlib.Core.Path.{_≡_, refl, sym, ap, ap₂, _∙_}
 use mathlib.Core.Bool.{Bool, true, false, not, cond, _&&_}
 use mathlib.Core.Option.{none, some}
 use mathlib.Core.List.{List, [], _∷_, _++_, map, map-append, append-assoc}
-use Prim.Native.Nat.{ℕ, zero, suc, _+_}
+use Prim.Native.Nat.{ℕ, _+_}
 use native.Mathlib.Decide.{ℕ-discrete}
 use native.Mathlib.Omega.{arith}
 use lib.Dec.{eqb}
 use borrow.Author.Tests.{ne-eqb}
 use Rattle.definition.specs.Edition.{Edition, blocks}
-use Rattle.definition.specs.Lists.{only, gather, range}
+use Rattle.definition.specs.Lists.{gather, range}
 use Rattle.definition.specs.Contents.{size, phiWord, inputAt, itemWord}
 use Rattle.definition.specs.Owners.{stmtKind, stmtField, exprItems, valueItems, blockPhis, blockStmts, phiInputs, firstPhi, firstStmt, firstInput, firstItem}
 use Rattle.definition.specs.Values.{Value, value, RSP}
@@ -19,38 +19,17 @@ use Rattle.definition.specs.Read.{allTrees, kindAt, marked, stmtAt, phiAt, bloc
 use Rattle.definition.specs.Inline.{live}
 use Rattle.definition.specs.Names.{phiKeys, blockKeys}
 use Rattle.definition.proofs.Bools.{by-test}
+use Rattle.records.proofs.Ranges.{gather-map, map-gather, gather-only, shift}
 use Rattle.meaning.specs.Defined.{itemValue}
 use Rattle.values.specs.Keys.{placesOf}
 use Rattle.reads.specs.Uses.{stmtUses, useValue}
 use Rattle.reads.proofs.Trees.{uses-are}
-use Rattle.reads.proofs.Statements.{gather-map, gather-same, map-map}
+use Rattle.reads.proofs.Statements.{gather-same, map-map}
 use Rattle.names.specs.Walk.{Spot, spot, inputSpot, phiSpots, fieldSpots, itemSpot, itemSpots, useSpot, useSpots, stmtSpots, blockSpots, spots}
 
 -- ---- the values of spots
 abbrev pub valuesOf : List Spot → List Value
 valuesOf xs = map (λ (x : Spot). x .of) xs
-
-module _ {A : Type 0} {B : Type 0} {C : Type 0} where
-  pub map-gather : (g : B → C) (h : A → List B) (xs : List A) → map g (gather h xs) ≡ gather (λ x. map g (h x)) xs
-  unfolding gather
-  map-gather g h [] = refl
-  map-gather g h (x ∷ xs) = map-append g (h x) (gather h xs) ∙ ap (λ l. map g (h x) ++ l) (map-gather g h xs)
-
-  -- those of which a test holds, one behind the other
-  pub gather-only : (g : B → List C) (p : B → Bool) (h : A → B) (xs : List A) → gather g (only p (map h xs)) ≡ gather (λ x. cond (p (h x)) (g (h x)) []) xs
-  unfolding gather only
-  gather-only g p h [] = refl
-  gather-only g p h (x ∷ xs) =
-      let r = gather-only g p h xs in
-      by-test (p (h x)) (λ t. rw t (ap (λ l. g (h x) ++ l) r)) (λ t. rw t r)
-
--- a range from a on, by the numbers from b on
-shifted : {A : Type 0} (g : ℕ → A) (a b n : ℕ) → map g (range (a + b) n) ≡ map (λ k. g (a + k)) (range b n)
-unfolding range
-shifted g a b zero = refl
-shifted g a b (suc n) =
-    let p : a + b + 1 ≡ a + (b + 1) = omega arith in
-    ap (λ l. g (a + b) ∷ l) (ap (λ (c : ℕ). map g (range c n)) p ∙ shifted g a (b + 1) n)
 
 -- ---- phis
 module _ (f : List ℕ) where
@@ -69,7 +48,7 @@ module _ (f : List ℕ) where
       let p : firstItem f i + exprItems f i + 0 ≡ firstItem f i + exprItems f i = omega arith in
       map-map (λ (x : Spot). x .of) (λ (k : ℕ). spot (placesOf f .items + k) (value (itemWord f k 0) (itemWord f k 1))) (range (firstItem f i + exprItems f i) (valueItems f i))
       ∙ ap (λ (a : ℕ). map (λ (k : ℕ). value (itemWord f k 0) (itemWord f k 1)) (range a (valueItems f i))) (sym p)
-      ∙ shifted (λ (k : ℕ). value (itemWord f k 0) (itemWord f k 1)) (firstItem f i + exprItems f i) 0 (valueItems f i)
+      ∙ sym (shift (λ (k : ℕ). value (itemWord f k 0) (itemWord f k 1)) (firstItem f i + exprItems f i) 0 (valueItems f i))
 
   field-values : (i : ℕ) → valuesOf (fieldSpots f i) ≡ assigned f i ++ callReturns f i
   unfolding fieldSpots

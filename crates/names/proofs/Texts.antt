@@ -18,7 +18,7 @@ use Rattle.definition.specs.Registers.{regName}
 use Rattle.definition.specs.Numbers.{decimal}
 use Rattle.definition.specs.Names.{Named, Naming, nameIn, params, paramNames, meet, nameKey, nameKeys, blockKeys, naming}
 use Rattle.definition.proofs.Bools.{by-test}
-use Rattle.values.proofs.Tables.{eqv-true}
+use Rattle.definition.proofs.Equal.{eqv-true}
 use Rattle.names.specs.Codes.{codeText, nameText, coded, Coding, paramCodes, meetCode, codeKey, codeKeys, codeStart, nameCode}
 
 -- ---- what codes say

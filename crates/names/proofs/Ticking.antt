@@ -12,6 +12,7 @@ use Rattle.definition.specs.Owners.{stmtKind}
 use Rattle.definition.specs.Read.{marked}
 use Rattle.values.specs.Keys.{placesOf}
 use Rattle.values.specs.Tables.{at}
+use Rattle.reads.specs.Counts.{placed, visit, slots, between}
 use Rattle.names.specs.Walk.{Spot, useSpot, useSpots, entrySpots, ticked}
 
 module _ (ns : List ℕ) where
@@ -20,18 +21,17 @@ module _ (ns : List ℕ) where
   tick-append t [] ys = refl
   tick-append t (x ∷ xs) ys = tick-append (set t (at ns (x .place)) 1) xs ys
 
-  -- ---- the nodes of a statement, from k up to b
+  -- ---- the nodes of a statement: what is placed at their numbers
   module _ (f order : List ℕ) where
-    pub tick-turn : (t t′ : List ℕ) (k b from n x : ℕ) → k < b → from ≡ placesOf f .exprs → n ≡ at order k → x ≡ at ns (from + n) → t′ ≡ set t x 1
-        → ticked ns t (map (λ j. useSpot f (at order j)) (range k (b - k))) ≡ ticked ns t′ (map (λ j. useSpot f (at order j)) (range (k + 1) (b - (k + 1))))
-    unfolding ticked range useSpot
-    tick-turn t t′ k b from n x h p q r s =
-        let m : b - k ≡ suc (b - (k + 1)) = omega arith in
-        rw (m, s, r, p, q)
+    placed-are : (ks t : List ℕ) → visit (placed 1) t (slots ns (placesOf f .exprs) (map (at order) ks)) ≡ ticked ns t (map (λ j. useSpot f (at order j)) ks)
+    unfolding visit placed slots ticked useSpot
+    placed-are [] t = refl
+    placed-are (k ∷ ks) t = placed-are ks (set t (at ns (placesOf f .exprs + at order k)) 1)
 
-    pub tick-end : (t r : List ℕ) (k b : ℕ) → b ≤ k → r ≡ ticked ns t (map (λ j. useSpot f (at order j)) (range k (b - k))) → t ≡ r
-    unfolding ticked range
-    tick-end t r k b h e = let p : b - k ≡ 0 = omega arith in sym (e ∙ rw p)
+    pub tick-run : (t : List ℕ) (from a b : ℕ) → from ≡ placesOf f .exprs
+        → visit (placed 1) t (slots ns from (between order a b)) ≡ ticked ns t (map (λ j. useSpot f (at order j)) (range a (b - a)))
+    unfolding between
+    tick-run t from a b e = rw e (placed-are (range a (b - a)) t)
 
   -- ---- statements, from i up to n
   pub stmts-start : (g : ℕ → List Spot) (t : List ℕ) (n m : ℕ) → n ≡ m → ticked ns t (gather g (range 0 m)) ≡ ticked ns t (gather g (range 0 (n - 0)))

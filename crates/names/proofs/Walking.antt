@@ -2,12 +2,11 @@
 use mathlib.Core.Path.{_≡_, refl, sym, ap, ap₂, _∙_}
 use mathlib.Core.Bool.{Bool, true, false}
 use mathlib.Core.List.{List, [], _∷_, _++_, map}
-use Prim.Native.Nat.{ℕ, suc, _+_, _-_, _/_, _%_, _≤_, _<_}
+use Prim.Native.Nat.{ℕ, suc, _+_, _-_, _≤_, _<_}
 use native.Mathlib.Omega.{arith}
-use lib.Dec.{eqb}
 use borrow.Author.Tests.{ne-eqb}
 use Rattle.definition.specs.Lists.{gather, range}
-use Rattle.definition.specs.Contents.{phiWord, inputAt, stmtWord, exprWord}
+use Rattle.definition.specs.Contents.{phiWord, inputAt, exprWord}
 use Rattle.definition.specs.Owners.{exprItems, valueItems, phiInputs, firstInput, firstItem}
 use Rattle.definition.specs.Values.{Value, value}
 use Rattle.definition.specs.Meaning.{phiValue, assigned, callReturns}
@@ -70,10 +69,6 @@ unfolding useSpot useValue
 use-spot f n from reg ver p q r = rw (p, q, r)
 
 -- ---- returns
-pub dead-is : (f : List ℕ) (i w : ℕ) → w ≡ stmtWord f i 2 → eqb (w % 2) 1 ≡ marked f i 1
-unfolding marked
-dead-is f i w h = let e : stmtWord f i 2 / 1 ≡ w = omega arith in rw e
-
 module _ (K : Known) (p : ℕ) (S : State) (d : Defined) where
   pub defined-none : d ≡ Nothing → S ≡ walked K S (map (spot p) (listOf d))
   unfolding walked

@@ -1,18 +1,17 @@
 // The values that are really read at entry, and the parameters: the argument registers up to the last of which the entry value is.
-use crate::statements::is_dead;
+use reads::counts::mark_run;
 use records::contents::ARGS;
 use records::contents::STATEMENTS;
 use records::contents::size_of;
 use records::owners::BRANCH;
 use records::owners::CALL;
+use records::owners::is_dead;
 use records::owners::stmt_kind;
 use values::places::places_of;
 use values::read::at_u32;
-use values::read::put_u32;
 ghost use mathlib.Core.Path.{_≡_};
 ghost use mathlib.Core.Bool.{_||_};
-ghost use mathlib.Core.List.{map};
-ghost use Prim.Native.Nat.{_-_, _<_};
+ghost use Prim.Native.Nat.{_<_};
 ghost use lib.Dec.{eqb};
 ghost use lib.ListN.{length, replicate};
 ghost use Rattle.definition.specs.Codes.{kCall, kBranch};
@@ -21,24 +20,9 @@ ghost use Rattle.definition.specs.Contents.{size};
 ghost use Rattle.definition.specs.Owners.{stmtKind};
 ghost use Rattle.definition.specs.Read.{marked};
 ghost use Rattle.values.specs.Keys.{placesOf};
-ghost use Rattle.values.specs.Tables.{at};
 ghost use Rattle.reads.specs.Orders.{Ordered};
-ghost use Rattle.definition.specs.Lists.{range};
-ghost use Rattle.names.specs.Walk.{useSpot, entrySpots, ticked};
+ghost use Rattle.names.specs.Walk.{entrySpots, ticked};
 ghost use Rattle.names.specs.Given.{Numbered, Counted, EntryRead};
-
-// The nodes that `order` has from a up to b; all nodes stand from place `from` on.
-fn tick_uses(tab: &mut [u32], f: &[u8], numbers: &[u32], order: &[u32], from: usize, a: u32, b: u32)
-    requires { ⌜ from ≡ placesOf (now f) .exprs ⌝ }
-    ensures { λ _. ⌜ now (tab .exit) ≡ ticked (now (numbers .entry)) (now (tab .entry)) (map (λ k. useSpot (now (f .entry)) (at (now (order .entry)) k)) (range a (b - a))) ⌝ }
-{
-    let mut k = a;
-    while k < b {
-        let n = at_u32(order, k as usize);
-        put_u32(tab, at_u32(numbers, from + n as usize) as usize, 1);
-        k += 1;
-    }
-}
 
 // Does statement i make no parameter: it is dead, or reads every argument register by convention.
 fn passed_over(f: &[u8], i: u32) -> bool
@@ -73,7 +57,7 @@ fn tick_stmt(
     }
     let a = at_u32(starts, i as usize);
     let b = at_u32(starts, i as usize + 1);
-    tick_uses(tab, f, numbers, order, from, a, b);
+    mark_run(tab, numbers, order, from, a, b, 1);
 }
 
 // 1 for each value that a live statement reads other than by convention.

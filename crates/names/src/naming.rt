@@ -1,9 +1,9 @@
 // The name of every value: parameters for argument registers' entry values, locals for the rest.
 use crate::entry::params;
 use crate::walk::name_blocks;
-use references::owned::clear;
 use values::read::at_u32;
 use values::read::put_u32;
+use zeros::clear_words;
 ghost use mathlib.Core.Path.{_≡_};
 ghost use Prim.Native.Nat.{_<_};
 ghost use lib.ListN.{length, replicate};
@@ -45,5 +45,5 @@ pub fn naming(
     let n = params(f, numbers, entry);
     see_params(seen, numbers, roots, n);
     name_blocks(names, seen, f, numbers, roots, places, order, starts);
-    clear(seen);
+    clear_words(seen);
 }

@@ -8,8 +8,8 @@ use meaning::value::item_value;
 use meaning::value::next_item;
 use meaning::value::returned_by;
 use records::contents::expr_word;
-use records::contents::stmt_word;
 use records::owners::expr_items;
+use records::owners::is_dead;
 use records::owners::value_items;
 use values::places::Places;
 use values::read::at_u32;
@@ -20,7 +20,6 @@ ghost use Rattle.definition.specs.Edition.{statements};
 ghost use Rattle.definition.specs.Lists.{gather, range};
 ghost use Rattle.definition.specs.Contents.{size};
 ghost use Rattle.definition.specs.Owners.{firstItem};
-ghost use Rattle.definition.specs.Read.{marked};
 ghost use Rattle.meaning.specs.Defined.{listOf};
 ghost use Rattle.values.specs.Keys.{placesOf};
 ghost use Rattle.values.specs.Tables.{at};
@@ -109,13 +108,6 @@ fn name_uses(
         k += 1;
     }
     next
-}
-
-// Is statement i dead.
-pub fn is_dead(f: &[u8], i: u32) -> bool
-    ensures { λ r. ⌜ r ≡ marked (now (f .entry)) i 1 ⌝ }
-{
-    stmt_word(f, i, 2) % 2 == 1
 }
 
 // What statement i defines by its fields; those of all statements stand from place `from` on.

@@ -12,13 +12,14 @@ use borrow.Author.Tests.{eqb-false, eq-eqb, ne-eqb, not-true}
 use Rattle.definition.specs.Values.{Value, value, eqv, RSP}
 use Rattle.definition.specs.Offsets.{half, Known, look}
 use Rattle.definition.proofs.Bools.{is-false}
+use Rattle.definition.proofs.Equal.{eqv-true}
 use Rattle.values.specs.declared.places.Places.{Places}
 use Rattle.values.specs.Keys.{keyOf, valueOf, keyed}
 use Rattle.values.specs.Tables.{at, firstOf, numberOf, numbered, entry, tabled, table}
 use Rattle.values.proofs.Ranges.{at-below}
 use Rattle.values.proofs.Placed.{keyed-length}
 use Rattle.offsets.specs.Ground.{Ground}
-use Rattle.values.proofs.Tables.{first-le, key-not-0, encode, eqv-true, numbered-at, table-zero, table-write, first-is, same-at, tabled-length}
+use Rattle.values.proofs.Tables.{first-le, key-not-0, encode, numbered-at, table-write, first-is, same-at, tabled-length, zeros-are}
 
 -- ---- the loop for the first place
 module _ (ks : List ℕ) (k : ℕ) where
@@ -92,18 +93,15 @@ module _ (f : List ℕ) (n : ℕ) (long : length (keyed f n) ≡ n) where
       let number : at (numbered f n) p ≡ p = numbered-at f n p h ∙ rw (is, ne-eqb (keyOf (value RSP 0)) 0 (key-not-0 (value RSP 0))) in
       ap (λ (q : ℕ). set (table f n (λ v. 0)) q half) (sym number) ∙ table-write f n (λ v. 0) p RSP 0 h is (omega arith) half
 
-  zeros-are : replicate n 0 ≡ table f n (λ v. 0)
-  zeros-are = sym (table-zero f n ∙ ap (λ (m : ℕ). replicate m 0) long)
-
   begin : (p : ℕ) (t : List ℕ) → p ≡ firstOf (keyed f n) 17179869185 → t ≡ replicate n 0 → set t p half ≡ table f n (look entered)
   unfolding keyOf
   begin p t e z = go (decLt (firstOf (keyed f n) (keyOf (value RSP 0))) (length (keyed f n)))
     where
       go : Dec (firstOf (keyed f n) (keyOf (value RSP 0)) < length (keyed f n)) → set t p half ≡ table f n (look entered)
-      go (yes h) = rw (z, e, zeros-are) (begin-some h)
+      go (yes h) = rw (z, e, zeros-are f n long) (begin-some h)
       go (no h) =
           let b : length (keyed f n) ≤ firstOf (keyed f n) (keyOf (value RSP 0)) = omega arith in
-          rw (z, e) (set-out (replicate n 0) (firstOf (keyed f n) 17179869185) half (omega (arith, length-replicate {A = ℕ} n 0)) ∙ zeros-are ∙ sym (begin-none b))
+          rw (z, e) (set-out (replicate n 0) (firstOf (keyed f n) 17179869185) half (omega (arith, length-replicate {A = ℕ} n 0)) ∙ zeros-are f n long ∙ sym (begin-none b))
 
 -- a list of zeros
 pub zeros-long : (n : ℕ) (l : List ℕ) → l ≡ replicate n 0 → length l ≡ n

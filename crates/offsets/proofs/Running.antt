@@ -1,7 +1,7 @@
 -- A run of definitions follows the definition's round: one definition by the table's entry for its value, and runs one behind the other.
 use mathlib.Core.Path.{_≡_, refl, sym, ap, subst, _∙_}
 use mathlib.Core.Bool.{Bool, true, false, cond, _||_, true≢false}
-use mathlib.Core.List.{List, [], _∷_, _++_, map, map-append, append-nil, append-assoc}
+use mathlib.Core.List.{List, [], _∷_, _++_, map, map-append, append-nil}
 use Prim.Native.Nat.{ℕ, zero, suc, _+_, _≤_, _<_}
 use native.Mathlib.Decide.{ℕ-discrete}
 use native.Mathlib.Omega.{arith}
@@ -15,10 +15,10 @@ use Rattle.definition.specs.Read.{allTrees, stmtAt, phiAt, blockAt}
 use Rattle.definition.specs.Offsets.{Known, look, Def, phiDef, stmtDef, blockDefs, defined, rule, learn, round}
 use Rattle.definition.proofs.Bools.{both-false}
 use Rattle.definition.proofs.ListLaws.{bit, count-cons, only-append}
+use Rattle.records.proofs.Ranges.{range-parts, gather-append}
 use Rattle.values.specs.declared.places.Places.{Places}
 use Rattle.values.specs.Tables.{at, numbered, table}
 use Rattle.values.proofs.Tables.{table-write}
-use Rattle.values.proofs.Ranges.{range-parts}
 use Rattle.offsets.specs.Ground.{Ground}
 use Rattle.offsets.specs.Defs.{turnOf, mine, phiDefs, stmtDefs, defsBelow}
 use Rattle.offsets.specs.Ran.{Pass, passOf, learnt, zeros, Ran}
@@ -133,11 +133,6 @@ module _ (own : Bool) where
   mine-none = refl
 
 -- ---- the definitions of records
-gather-append : {A B : Type 0} (g : A → List B) (xs ys : List A) → gather g (xs ++ ys) ≡ gather g xs ++ gather g ys
-unfolding gather
-gather-append g [] ys = refl
-gather-append g (x ∷ xs) ys = rw (gather-append g xs ys) (sym (append-assoc (g x) (gather g xs) (gather g ys)))
-
 phis-parts : (f : List ℕ) (a n : ℕ) → phiDefs f a (n + 1) ≡ phiDefs f a n ++ phiDefs f (a + n) 1
 unfolding phiDefs
 phis-parts f a n =

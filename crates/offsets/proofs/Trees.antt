@@ -6,8 +6,6 @@ use mathlib.Core.List.{List, [], _∷_, _++_}
 use Prim.Native.Nat.{ℕ, zero, suc, _+_, _≤_, _<_}
 use native.Mathlib.Omega.{arith}
 use lib.Dec.{eqb, ltb}
-use lib.ListN.{length, length-append, List·getD-append, List·getD-eq-default}
-use lib.Seq.{getD-at}
 use borrow.Author.Tests.{ltb-true, ltb-false, eqb-true, eqb-false, eq-eqb, ne-eqb}
 use Rattle.definition.specs.Edition.{Edition, expressions}
 use Rattle.definition.specs.Lists.{any}
@@ -19,6 +17,7 @@ use Rattle.definition.specs.Ssa.Expr.{Const, Use, Bin, Un, Load, Opaque}
 use Rattle.definition.specs.Read.{opText, treeAt, tree, trees, allTrees}
 use Rattle.definition.specs.Offsets.{Known, look, withConst, sum, stackOff, known, isConst, outside, refused7}
 use Rattle.definition.proofs.Bools.{by-cond, by-test, or-left, or-right}
+use Rattle.records.proofs.Trees.{tree-lower, tree-past}
 use Rattle.offsets.specs.Address.{single, opByte, isSign, signedBy, usedAt, constAt, sumAt, addressAt, outsideAt}
 use Rattle.offsets.proofs.Signed.{signed-0, signed-single, sign-single}
 
@@ -77,28 +76,12 @@ any-append p (x ∷ xs) ys = ap (λ (b : Bool). p x || b) (any-append p xs ys) �
 
 -- ---- the trees of a file
 module _ (E : Edition) (f : List ℕ) where
-  trees-length : (n : ℕ) → length (trees E f n) ≡ n
-  unfolding trees
-  trees-length zero = refl
-  trees-length (suc n) = omega (arith, length-append (trees E f n) (tree E f (trees E f n) n ∷ []), trees-length n)
-
   unfoldable node : ℕ → Expr
   node n = tree E f (trees E f n) n
 
-  tree-lower : (n i : ℕ) → i < n → treeAt (trees E f n) i ≡ node i
-  unfolding trees node
-  tree-lower zero i h = absurd (omega arith)
-  tree-lower (suc n) i h =
-      let t = trees E f n in
-      let l = trees-length n in
-      let below = tree-lower n i in
-      by-test (ltb i n)
-      (λ e. let b = ltb-true i n e in List·getD-append t (tree E f t n ∷ []) (Opaque []) i (omega arith) ∙ below b)
-      (λ e. let q : i ≡ n = omega (arith, ltb-false i n e) in
-      getD-at t (tree E f t n) [] (Opaque []) i (l ∙ sym q) ∙ ap (λ (m : ℕ). tree E f (trees E f m) m) (sym q))
-
-  tree-past : (n i : ℕ) → n ≤ i → treeAt (trees E f n) i ≡ Opaque []
-  tree-past n i h = List·getD-eq-default (trees E f n) (Opaque []) (omega (arith, trees-length n))
+  node-lower : (n i : ℕ) → i < n → treeAt (trees E f n) i ≡ node i
+  unfolding node
+  node-lower n i h = tree-lower E f n i h
 
   -- by its tag
   by-node : (n : ℕ) (P : Expr → Type 0)
@@ -156,22 +139,22 @@ module _ (E : Edition) (f : List ℕ) where
       unfolding base
       base-child a =
           by-test (ltb a n)
-          (λ e. rw e (ap (base k) (tree-lower n a (ltb-true a n e)) ∙ base-node a (omega (arith, ltb-true a n e))))
-          (λ e. rw e (ap (base k) (tree-past n a (ltb-false a n e))))
+          (λ e. rw e (ap (base k) (node-lower n a (ltb-true a n e)) ∙ base-node a (omega (arith, ltb-true a n e))))
+          (λ e. rw e (ap (base k) (tree-past E f n a (ltb-false a n e))))
 
       const-child : (b s : ℕ) (o : List ℕ) → withConst s o (child b) ≡ cond (ltb b n && eqb (exprWord f b 0) 1) (signedBy s (single o) (exprLong f b 1)) 0
       unfolding withConst
       const-child b s o =
           by-test (ltb b n)
-          (λ e. rw e (ap (withConst s o) (tree-lower n b (ltb-true b n e)) ∙ const-node b s o))
-          (λ e. rw e (ap (withConst s o) (tree-past n b (ltb-false b n e))))
+          (λ e. rw e (ap (withConst s o) (node-lower n b (ltb-true b n e)) ∙ const-node b s o))
+          (λ e. rw e (ap (withConst s o) (tree-past E f n b (ltb-false b n e))))
 
       is-const-child : (b : ℕ) → isConst (child b) ≡ (ltb b n && eqb (exprWord f b 0) 1)
       unfolding isConst
       is-const-child b =
           by-test (ltb b n)
-          (λ e. rw e (ap isConst (tree-lower n b (ltb-true b n e)) ∙ is-const b))
-          (λ e. rw e (ap isConst (tree-past n b (ltb-false b n e))))
+          (λ e. rw e (ap isConst (node-lower n b (ltb-true b n e)) ∙ is-const b))
+          (λ e. rw e (ap isConst (tree-past E f n b (ltb-false b n e))))
 
       op-is : single (opText E f n) ≡ opByte f (text E) n
       unfolding opText textAt opByte
@@ -222,7 +205,7 @@ module _ (E : Edition) (f : List ℕ) where
     -- an expression of the file, and one that is not there
     pub off-here : (n : ℕ) → n < size f expressions → addressAt h f (text E) n ≡ stackOff k (treeAt (allTrees E f) n)
     unfolding allTrees
-    off-here n b = sym (ap (stackOff k) (tree-lower (size f expressions) n b) ∙ off-node n b)
+    off-here n b = sym (ap (stackOff k) (node-lower (size f expressions) n b) ∙ off-node n b)
 
     -- the expressions below n, one after the other
     pub out-turn : (n : ℕ) → n < size f expressions → any (outside k) (trees E f n) ≡ false → outsideAt h f (text E) n ≡ false → any (outside k) (trees E f (n + 1)) ≡ false
@@ -257,4 +240,4 @@ module _ (E : Edition) (f : List ℕ) where
 
   pub off-past : (k : List Known) (n : ℕ) → size f expressions ≤ n → 0 ≡ stackOff k (treeAt (allTrees E f) n)
   unfolding allTrees stackOff
-  off-past k n b = sym (ap (stackOff k) (tree-past (size f expressions) n b))
+  off-past k n b = sym (ap (stackOff k) (tree-past E f (size f expressions) n b))

@@ -26,6 +26,7 @@ use Rattle.definition.specs.Tokens.{tok}
 use Rattle.definition.specs.Render.{variable}
 use Rattle.definition.specs.Lower.{isStackLoad, restores}
 use Rattle.definition.specs.Blocks.{readRoots, lowering}
+use Rattle.reads.proofs.ReadAtAll.{bit-not}
 use Rattle.values.specs.declared.places.Places.{Places}
 use Rattle.values.specs.Keys.{stmtKey, placesOf}
 use Rattle.values.specs.Tables.{at, numbered, table}
@@ -81,10 +82,6 @@ pub name-put : (r₁ r₀ : Room) (f names : List ℕ) (i m w r c : ℕ) → w �
     → r₁ ≡ emit r₀ (tok 1 (nameOr (regName w r) (nameText w r c)))
     → r₁ ≡ emit r₀ (tok 1 (nameOr (regName (bits f) (stmtField f i 0)) (nameText (bits f) (stmtField f i 0) (at names m))))
 name-put r₁ r₀ f names i m w r c p q d e = rw (← p, ← q, ← d) e
-
-bit-not : (b : Bool) → eqb (cond b 1 0) 0 ≡ not b
-bit-not true = refl
-bit-not false = refl
 
 -- ---- what the tables say
 module _ (f : List ℕ) (bytes : (k : ℕ) → Fits w8 (getD f k 0)) (t : ℕ) (P : Places) (numbers offs placed names : List ℕ)

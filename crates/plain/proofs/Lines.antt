@@ -1,7 +1,7 @@
 -- The lines of a statement of each kind, as the definition lowers it: none where a test holds, and else one at its address.
-use mathlib.Core.Path.{_≡_, refl, sym, ap, _∙_}
+use mathlib.Core.Path.{_≡_, refl}
 use mathlib.Core.Bool.{Bool, true, false, cond, _||_}
-use mathlib.Core.Option.{Option, some}
+use mathlib.Core.Option.{some}
 use mathlib.Core.List.{List, [], _∷_}
 use Prim.Native.Nat.{ℕ, _≤_, _<_}
 use native.Mathlib.Omega.{arith}
@@ -11,14 +11,9 @@ use Rattle.definition.specs.Owners.{stmtKind, stmtField}
 use Rattle.definition.specs.Ssa.{Stmt}
 use Rattle.definition.specs.Read.{treeAt, allTrees, marked, kindAt, stmtAt, read}
 use Rattle.definition.specs.Offsets.{offsets}
-use Rattle.definition.specs.Tokens.{Token, Line, line}
+use Rattle.definition.specs.Tokens.{Line, line}
 use Rattle.definition.specs.Lower.{Here, restores, assign, silent, store, return, other, lowerKind}
 use Rattle.definition.specs.Blocks.{isSave}
-use Rattle.room.specs.declared.out.Out.{Out}
-use Rattle.room.specs.declared.out.At.the-variants.{Address}
-use Rattle.room.specs.Room.{Room, Sheet, roomOf, sheetOf, emitAll, seen, seenSheet, writeAll, optionOf}
-use Rattle.room.specs.Ending.{Ended}
-use Rattle.room.proofs.Laws.{line-ends, written-none}
 use Rattle.lowering.specs.Lowered.{loweringOf, lowered, exprOf}
 use Rattle.plain.specs.Pieces.{becomes, resultOf, returnOf, isTaken, isSilent, throughOf, destinationOf, storeOf, target, isGone, assignOf}
 use Rattle.plain.specs.Asm.{otherOf}
@@ -27,26 +22,6 @@ use Rattle.lowering.proofs.Gen.{gen-bits, gen-offsets}
 -- a statement of a block is one of the file
 pub inside : (i end n : ℕ) → (i < end) × (end ≤ n) → i < n
 inside i end n h = omega (arith, h .0, h .1)
-
--- ---- lines that a test leaves out, which the code has as d
-module _ (ls xs : List Line) (b d : Bool) (are : ls ≡ cond b [] xs) (says : d ≡ b) where
-  pub left-out : (s : Sheet) → d ≡ true → seenSheet s ≡ seenSheet (writeAll s ls)
-  left-out s h = written-none s ∙ ap (λ (l : List Line). seenSheet (writeAll s l)) (sym (are ∙ rw (sym says ∙ h)))
-
-  pub not-out : d ≡ false → ls ≡ xs
-  not-out h = are ∙ rw (sym says ∙ h)
-
--- a statement's line ends at its address
-pub ends-at : (l l′ : List ℕ) (o r : Out) (f : List ℕ) (i a : ℕ) → a ≡ stmtLong f i 0 → Ended l o 1 (optionOf (Address a)) l′ r → Ended l o 1 (some (stmtLong f i 0)) l′ r
-unfolding optionOf
-ends-at l l′ o r f i a e d = rw (← e) d
-
--- one line
-pub line-put : (ls : List Line) (l l′ : List ℕ) (r₀ : Room) (ks ts : List ℕ) (o₁ o : Out) (a : Option ℕ) (ps : List Token) → ls ≡ line 1 a ps ∷ []
-    → seen (roomOf ks ts o₁) ≡ seen (emitAll r₀ ps) → Ended l o₁ 1 a l′ o
-    → seenSheet (sheetOf l′ ks ts o) ≡ seenSheet (writeAll (record { lines = l; room = r₀ }) ls)
-line-put ls l l′ r₀ ks ts o₁ o a ps are e d =
-    line-ends l l′ r₀ (roomOf ks ts o₁) o 1 a ps e d ∙ ap (λ (x : List Line). seenSheet (writeAll (record { lines = l; room = r₀ }) x)) (sym are)
 
 -- two tests in turn
 in-turn : (a b : Bool) (xs : List Line) → cond (a || b) [] xs ≡ cond a [] (cond b [] xs)

@@ -1,14 +1,12 @@
 -- An expression loads from a slot where its record is a Load of a lower expression that has an offset; a child that is not lower counts as an Opaque.
 use mathlib.Core.Path.{_≡_, refl, sym, ap, ap₂, _∙_}
 use mathlib.Core.Bool.{Bool, false, not, _&&_}
-use mathlib.Core.List.{List, [], _∷_}
-use Prim.Native.Nat.{ℕ, zero, suc, _≤_, _<_}
+use mathlib.Core.List.{List, []}
+use Prim.Native.Nat.{ℕ, _≤_, _<_}
 use native.Mathlib.Decide.{ℕ-discrete}
 use native.Mathlib.Omega.{arith}
-use lib.Dec.{eqb, ltb}
-use lib.ListN.{length, length-append, List·getD-append, List·getD-eq-default}
-use lib.Seq.{getD-at}
-use borrow.Author.Tests.{ltb-true, ltb-false, eq-eqb, ne-eqb}
+use lib.Dec.{eqb}
+use borrow.Author.Tests.{eq-eqb, ne-eqb}
 use Rattle.definition.specs.Edition.{Edition, expressions}
 use Rattle.definition.specs.Contents.{size, exprWord}
 use Rattle.definition.specs.Ssa.{Expr}
@@ -16,33 +14,10 @@ use Rattle.definition.specs.Ssa.Expr.{Opaque}
 use Rattle.definition.specs.Read.{treeAt, tree, trees, allTrees, read}
 use Rattle.definition.specs.Offsets.{Known, offsets, stackOff}
 use Rattle.definition.specs.Lower.{isStackLoad}
-use Rattle.definition.proofs.Bools.{by-test}
+use Rattle.records.proofs.Trees.{tree-lower, tree-past}
 use Rattle.lowering.specs.Lowered.{loweringOf}
 use Rattle.lowering.proofs.Gen.{gen-offsets}
 
--- ---- the trees of a file
-module _ (E : Edition) (f : List ℕ) where
-  trees-long : (n : ℕ) → length (trees E f n) ≡ n
-  unfolding trees
-  trees-long zero = refl
-  trees-long (suc n) = omega (arith, length-append (trees E f n) (tree E f (trees E f n) n ∷ []), trees-long n)
-
-  tree-lower : (n i : ℕ) → i < n → treeAt (trees E f n) i ≡ tree E f (trees E f i) i
-  unfolding trees
-  tree-lower zero i h = absurd (omega arith)
-  tree-lower (suc n) i h =
-      let t = trees E f n in
-      let l = trees-long n in
-      let below = tree-lower n i in
-      by-test (ltb i n)
-      (λ e. let b = ltb-true i n e in List·getD-append t (tree E f t n ∷ []) (Opaque []) i (omega arith) ∙ below b)
-      (λ e. let q : i ≡ n = omega (arith, ltb-false i n e) in
-      getD-at t (tree E f t n) [] (Opaque []) i (l ∙ sym q) ∙ ap (λ (m : ℕ). tree E f (trees E f m) m) (sym q))
-
-  tree-past : (n i : ℕ) → n ≤ i → treeAt (trees E f n) i ≡ Opaque []
-  tree-past n i h = List·getD-eq-default (trees E f n) (Opaque []) (omega (arith, trees-long n))
-
--- ---- one of them
 no-offset : (k : List Known) → not (eqb (stackOff k (Opaque [])) 0) ≡ false
 unfolding stackOff
 no-offset k = refl

@@ -14,12 +14,11 @@ use Rattle.definition.specs.Tokens.{tok}
 use Rattle.ssa.specs.declared.parts.Text.{Text}
 use Rattle.names.specs.Codes.{nameText}
 use Rattle.room.specs.Room.{Room, emit, emitAll, seen}
-use Rattle.room.proofs.Laws.{next, joined}
+use Rattle.room.proofs.Laws.{next, joined, one}
 use Rattle.plain.specs.declared.sets.Named.{Named}
 use Rattle.plain.specs.declared.sets.Sets.{Sets}
 use Rattle.plain.specs.declared.sets.Sets.the-variants.{Nothing, One, More}
 use Rattle.plain.specs.Asm.{asmBlock, asmCall, asmOf, otherOf}
-use Rattle.plain.proofs.Writing.{one}
 
 pub between-put : (r₃ r₂ r₁ r₀ : Room) (E : Edition) (f : List ℕ) (t o : ℕ) (x : Text) (l r : List ℕ) → text E ≡ t → o ≡ offset f t → r₁ ≡ emit r₀ (tok 0 l)
     → r₂ ≡ emit r₁ (tok 0 (part f (o + x .start) (x .len))) → r₃ ≡ emit r₂ (tok 0 r)

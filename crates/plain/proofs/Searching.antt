@@ -1,10 +1,9 @@
 -- The search for the variables that an Other sets, return by return: the tests of one value, and a loop that goes on where it stopped.
 use mathlib.Core.Path.{_≡_, sym, ap, _∙_}
-use mathlib.Core.Bool.{Bool, true, false, not}
+use mathlib.Core.Bool.{Bool, true, false}
 use mathlib.Core.List.{List}
 use Prim.Native.Nat.{ℕ, suc, _+_, _-_, _≤_, _<_}
 use native.Mathlib.Omega.{arith}
-use lib.Dec.{eqb}
 use lib.ListN.{getD}
 use mir.Syntax.{w8}
 use mir.Val.{Fits}
@@ -15,10 +14,11 @@ use Rattle.records.proofs.Items.{size-small}
 use Rattle.values.specs.declared.places.Places.{Places}
 use Rattle.values.specs.Keys.{placesOf}
 use Rattle.values.specs.Tables.{at}
+use Rattle.reads.specs.Counts.{readBy}
 use Rattle.plain.specs.declared.sets.Named.{Named}
 use Rattle.plain.specs.declared.sets.Sets.{Sets}
 use Rattle.plain.specs.declared.sets.Sets.the-variants.{Nothing, One, More}
-use Rattle.plain.specs.Asm.{Tables, tables, withOne, withName, readBy, codeAt, setsFrom}
+use Rattle.plain.specs.Asm.{Tables, tables, withOne, withName, codeAt, setsFrom}
 
 -- ---- where places begin
 module _ (f : List ℕ) (bytes : (k : ℕ) → Fits w8 (getD f k 0)) (P : Places) (are : P ≡ placesOf f) where
@@ -48,16 +48,6 @@ module _ (s : Sets) (r c : ℕ) where
     pub name-more : s ≡ More → More ≡ withName s r c
     unfolding withName withOne
     name-more e = rw (ne-eqb c 0 named, e)
-
--- ---- is a value read
-module _ (live phi : List ℕ) (m x : ℕ) (lives : x ≡ at live m) where
-  pub read-live : (x ≡ 0 → ⊥) → true ≡ readBy live phi m
-  unfolding readBy
-  read-live h = rw (← lives, ne-eqb x 0 h)
-
-  pub read-phi : (y : ℕ) → x ≡ 0 → y ≡ at phi m → not (eqb y 0) ≡ readBy live phi m
-  unfolding readBy
-  read-phi y h e = rw (← lives, eq-eqb x 0 h, e)
 
 -- ---- its code
 module _ (f numbers names live phi : List ℕ) (base k r : ℕ) (reg : r ≡ itemWord f k 0) where

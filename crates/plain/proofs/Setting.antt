@@ -1,7 +1,7 @@
 -- The variables that an Other sets and somebody reads: the definition's list of their names is empty, of one or of more as the code's search says, since
 -- the tables say of each value whether it is read and what its name is.
 use mathlib.Core.Path.{_≡_, refl, sym, ap, ap₂, subst, _∙_}
-use mathlib.Core.Bool.{Bool, true, false, not, cond, _||_}
+use mathlib.Core.Bool.{Bool, true, false, cond}
 use mathlib.Core.List.{List, [], _∷_, _++_, append-assoc, append-nil}
 use Prim.Native.Nat.{ℕ, zero, suc, _+_, _<_}
 use native.Mathlib.Omega.{arith}
@@ -9,10 +9,9 @@ use lib.Dec.{eqb}
 use lib.ListN.{length, getD}
 use mir.Syntax.{w8}
 use mir.Val.{Fits}
-use borrow.Author.Tests.{ne-eqb}
 use Rattle.words.proofs.Laws.{word-small}
 use Rattle.definition.specs.Edition.{Edition, statements}
-use Rattle.definition.specs.Lists.{any, count, gather, range}
+use Rattle.definition.specs.Lists.{count, gather, range}
 use Rattle.definition.specs.Contents.{size, itemWord, textAt}
 use Rattle.definition.specs.Owners.{stmtField, exprItems, valueItems, firstItem}
 use Rattle.definition.specs.Values.{Value, value, eqv, within}
@@ -25,19 +24,20 @@ use Rattle.definition.specs.Lookup.{nameOr}
 use Rattle.definition.specs.Lower.{Lowering, isRead, nameList, asm}
 use Rattle.definition.specs.Blocks.{lowering}
 use Rattle.definition.proofs.Bools.{by-test}
+use Rattle.records.proofs.Ranges.{gather-map}
 use Rattle.values.specs.declared.places.Places.{Places}
 use Rattle.values.specs.Keys.{itemKey, placesOf}
 use Rattle.values.specs.Tables.{at, table}
 use Rattle.values.proofs.Placed.{at-item, keyed-length, item-here}
-use Rattle.reads.specs.Counts.{LiveReads, PhiReads}
-use Rattle.reads.proofs.Statements.{gather-map}
+use Rattle.reads.specs.Counts.{readBy, LiveReads, PhiReads}
+use Rattle.reads.proofs.ReadAtAll.{read-by}
 use Rattle.names.specs.Codes.{codeText, nameText, nameCode}
 use Rattle.names.proofs.Tied.{Mentions, coded-read}
 use Rattle.render.specs.Told.{Told}
 use Rattle.lowering.specs.Lowered.{loweringOf}
 use Rattle.plain.specs.declared.sets.Sets.{Sets}
 use Rattle.plain.specs.declared.sets.Sets.the-variants.{Nothing, One, More}
-use Rattle.plain.specs.Asm.{Tables, tables, withOne, withName, readBy, codeAt, setsFrom, asmBlock, asmCall, asmOf, otherOf}
+use Rattle.plain.specs.Asm.{Tables, tables, withOne, withName, codeAt, setsFrom, asmBlock, asmCall, asmOf, otherOf}
 use Rattle.lowering.proofs.Gen.{name-coded}
 
 -- ---- a list of names that what was found says
@@ -87,16 +87,6 @@ module _ (b : ℕ) where
       rw (q, ← append-assoc ns (g j) (gather g (range (j + 1) n)))
       (next (rw (are j (omega arith)) (says-name s ns (itemWord f (a + j) 0) (codeAt f T base (a + j)) e)))
 
--- ---- who reads a value
-count-some : {A : Type 0} (p : A → Bool) (xs : List A) → not (eqb (count p xs) 0) ≡ any p xs
-unfolding count any
-count-some p [] = refl
-count-some p (x ∷ xs) = by-test (p x) (λ h. rw h (ap not (ne-eqb (suc (count p xs)) 0 (λ z. omega arith)))) (λ h. rw h (count-some p xs))
-
-bit-some : (b : Bool) → not (eqb (cond b 1 0) 0) ≡ b
-bit-some true = refl
-bit-some false = refl
-
 -- the names that the definition lists of a value that is read or not as q says, and whose code is c
 list-by : (L : Lowering) (v : Value) (b c : ℕ) (q : Bool) → isRead (L .reads) v ≡ q → nameIn (L .gen .names) v ≡ nameText b (v .reg) c
     → nameList L v ≡ listOf b (v .reg) (cond (eqb (v .reg) 4) 0 (cond q c 0))
@@ -137,11 +127,10 @@ module _ (f : List ℕ) (bytes : (k : ℕ) → Fits w8 (getD f k 0)) (t : ℕ) (
 
     module _ (E : Edition) where
       read-is : readBy live phi (at numbers spot) ≡ isRead (loweringOf E f .reads) (val j)
-      unfolding readBy isRead within loweringOf lowering readsOf
+      unfolding loweringOf lowering
       read-is =
-          ap₂ (λ (a b : Bool). a || b)
-          (ap (λ (x : ℕ). not (eqb x 0)) (tells (λ v. count (eqv v) (reads (read E f))) live (lives E)) ∙ count-some (eqv (val j)) (reads (read E f)))
-          (ap (λ (x : ℕ). not (eqb x 0)) (tells (λ v. cond (within v (phiReads (read E f))) 1 0) phi (flows E)) ∙ bit-some (within (val j) (phiReads (read E f))))
+          read-by E f live phi (at numbers spot) (val j) (tells (λ v. count (eqv v) (reads (read E f))) live (lives E))
+          (tells (λ v. cond (within v (phiReads (read E f))) 1 0) phi (flows E))
 
       list-is : nameList (loweringOf E f) (val j) ≡ listOf (bits f) (itemWord f (from + j) 0) (codeAt f T (placesOf f .items) (from + j))
       unfolding codeAt

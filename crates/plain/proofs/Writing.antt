@@ -2,7 +2,7 @@
 use mathlib.Core.Path.{_≡_, refl, ap, _∙_}
 use mathlib.Core.Bool.{true, false}
 use mathlib.Core.Option.{Option, none, some}
-use mathlib.Core.List.{List, [], _∷_}
+use mathlib.Core.List.{List, []}
 use Prim.Native.Nat.{ℕ}
 use borrow.Author.Tests.{eq-eqb, ne-eqb}
 use Rattle.definition.specs.Edition.{Edition, statements}
@@ -19,15 +19,11 @@ use Rattle.definition.specs.Tokens.{Token, tok}
 use Rattle.definition.specs.Render.{pointer, slotOr, through}
 use Rattle.definition.specs.Lower.{Lowering, returnTokens}
 use Rattle.room.specs.Room.{Room, emit, emitAll, seen}
-use Rattle.room.proofs.Laws.{next, more, done}
+use Rattle.room.proofs.Laws.{next, more, done, one}
 use Rattle.render.specs.Gens.{rendered}
 use Rattle.lowering.specs.Lowered.{loweringOf, exprOf}
 use Rattle.plain.specs.Pieces.{becomes, resultOf, returnOf, throughOf, destinationOf, storeOf}
 use Rattle.lowering.proofs.Gen.{lowering-returns, rendered-is}
-
--- one piece, as a list
-pub one : (r₁ r₀ : Room) (p : Token) → r₁ ≡ emit r₀ p → seen r₁ ≡ seen (emitAll r₀ (p ∷ []))
-one r₁ r₀ p e = next r₁ r₀ p [] e (done r₁)
 
 -- an expression behind all statements
 pub expr-put : (r₁ r₀ : Room) (E : Edition) (f : List ℕ) (pos n : ℕ) → owned f ≡ true → pos ≡ size f statements

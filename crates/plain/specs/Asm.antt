@@ -1,5 +1,5 @@
 -- What an Other sets, by the places of its values in the lists: no variable that somebody reads, one, or more; and what it prints then.
-use mathlib.Core.Bool.{Bool, not, cond, _||_}
+use mathlib.Core.Bool.{cond}
 use mathlib.Core.List.{List, [], _∷_, _++_}
 use Prim.Native.Nat.{ℕ, zero, suc, _+_}
 use lib.Dec.{eqb}
@@ -15,6 +15,7 @@ use Rattle.definition.specs.Lookup.{nameOr}
 use Rattle.definition.specs.Tokens.{Token, textual, register, keyword, punct}
 use Rattle.definition.specs.Lower.{nameList, asm}
 use Rattle.values.specs.Tables.{at}
+use Rattle.reads.specs.Counts.{readBy}
 use Rattle.names.specs.Codes.{nameText}
 use Rattle.lowering.specs.Lowered.{loweringOf}
 use Rattle.plain.specs.declared.sets.Named.{Named}
@@ -29,10 +30,6 @@ withOne More r c = More
 
 unfoldable pub withName : Sets → ℕ → ℕ → Sets
 withName s r c = cond (eqb c 0) s (withOne s r c)
-
--- is value m read, by the tables of reads
-unfoldable pub readBy : List ℕ → List ℕ → ℕ → Bool
-readBy live phi m = not (eqb (at live m) 0) || not (eqb (at phi m) 0)
 
 -- the tables: numbers of values, codes of names, reads by live statements and by phis
 pub record Tables : Type 0 where

@@ -1,8 +1,7 @@
 // The line of an Assign.
-use crate::parts::end_stmt;
-use crate::parts::is_dead;
 use crate::parts::number_of;
 use crate::parts::put_becomes;
+use lowering::line::end_stmt;
 use meaning::meaning::bits_of;
 use meaning::value::RSP;
 use offsets::address::stack_off;
@@ -10,6 +9,7 @@ use records::contents::EXPRESSIONS;
 use records::contents::expr_word;
 use records::contents::size_of;
 use records::owners::LOAD;
+use records::owners::is_dead;
 use records::owners::stmt_field;
 use render::code::put_code;
 use room::out::Out;

@@ -3,6 +3,5 @@ pub mod assign;
 pub mod other;
 mod parts;
 pub mod returns;
-mod saves;
 mod sets;
 pub mod store;

@@ -1,14 +1,14 @@
 // The line of an Other.
-use crate::parts::KEYWORD;
-use crate::parts::PUNCT;
-use crate::parts::TEXT;
-use crate::parts::end_stmt;
-use crate::parts::is_dead;
 use crate::sets::Named;
 use crate::sets::Sets;
 use crate::sets::sets_of;
+use lowering::kinds::KEYWORD;
+use lowering::kinds::PUNCT;
+use lowering::kinds::TEXT;
+use lowering::line::end_stmt;
 use meaning::meaning::bits_of;
 use records::contents::offset_of;
+use records::owners::is_dead;
 use records::owners::stmt_field;
 use render::code::put_code;
 use room::from_file::put_part;

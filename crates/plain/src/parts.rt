@@ -1,41 +1,21 @@
 // What lines of several kinds have.
+use lowering::kinds::PUNCT;
 use records::contents::STATEMENTS;
 use records::contents::size_of;
-use records::contents::stmt_long;
-use records::contents::stmt_word;
 use render::expr::expr;
-use room::line::end_line;
-use room::out::At;
 use room::out::Out;
 use room::put::put;
 use values::places::Places;
 use values::read::at_u32;
 ghost use mathlib.Core.Path.{_≡_};
-ghost use mathlib.Core.Option.{some};
 ghost use Prim.Native.Nat.{_+_, _<_};
 ghost use Rattle.definition.specs.Edition.{Edition};
-ghost use Rattle.definition.specs.Contents.{text as textOf, stmtLong};
-ghost use Rattle.definition.specs.Read.{marked};
+ghost use Rattle.definition.specs.Contents.{text as textOf};
 ghost use Rattle.values.specs.Tables.{at};
 ghost use Rattle.room.specs.Room.{roomOf, emitAll, seen};
-ghost use Rattle.room.specs.Ending.{Ended};
 ghost use Rattle.render.specs.Told.{Told};
 ghost use Rattle.lowering.specs.Lowered.{exprOf};
 ghost use Rattle.plain.specs.Pieces.{becomes};
-
-// The kinds of tokens.
-pub const TEXT: u32 = 0;
-
-pub const KEYWORD: u32 = 3;
-
-pub const PUNCT: u32 = 6;
-
-// Whether statement i is dead.
-pub fn is_dead(f: &[u8], i: u32) -> bool
-    ensures { λ r. ⌜ r ≡ marked (now (f .entry)) i 1 ⌝ }
-{
-    stmt_word(f, i, 2) % 2 == 1
-}
 
 // The number of the value at place i behind `base`.
 pub fn number_of(numbers: &[u32], base: usize, i: u32) -> usize
@@ -114,11 +94,4 @@ pub fn put_becomes(
         n,
     );
     put(tokens, text, out, PUNCT, b";")
-}
-
-// The end of statement i's line.
-pub fn end_stmt(lines: &mut [u64], out: Out, f: &[u8], i: u32) -> Out
-    ensures { λ r. ⌜ Ended (now (lines .entry)) out 1 (some (stmtLong (now (f .entry)) i 0)) (now (lines .exit)) r ⌝ }
-{
-    end_line(lines, out, 1, At::Address(stmt_long(f, i, 0)))
 }

@@ -1,10 +1,10 @@
 // The line of a Return.
-use crate::parts::KEYWORD;
-use crate::parts::PUNCT;
-use crate::parts::TEXT;
-use crate::parts::end_stmt;
-use crate::parts::is_dead;
 use crate::parts::put_expr;
+use lowering::kinds::KEYWORD;
+use lowering::kinds::PUNCT;
+use lowering::kinds::TEXT;
+use lowering::line::end_stmt;
+use records::owners::is_dead;
 use records::owners::stmt_field;
 use room::out::Out;
 use room::put::put;

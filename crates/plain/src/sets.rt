@@ -1,6 +1,7 @@
 // Which variables an Other sets that somebody reads.
 use crate::parts::number_of;
 use meaning::value::RSP;
+use reads::counts::is_read;
 use records::contents::item_word;
 use records::owners::expr_items;
 use records::owners::value_items;
@@ -14,7 +15,7 @@ ghost use Rattle.definition.specs.Owners.{exprItems, valueItems, firstItem};
 ghost use Rattle.values.specs.Keys.{placesOf};
 ghost use Rattle.offsets.specs.Ground.{Ground};
 ghost use Rattle.plain.specs.declared.sets.Sets.the-variants.{Nothing};
-ghost use Rattle.plain.specs.Asm.{withName, readBy, tables, codeAt, setsFrom};
+ghost use Rattle.plain.specs.Asm.{withName, tables, codeAt, setsFrom};
 
 // A variable, by its register and the code of its name.
 pub struct Named {
@@ -40,16 +41,6 @@ fn with_name(s: Sets, reg: u32, code: u32) -> Sets
         Sets::One(_) => Sets::More,
         Sets::More => Sets::More,
     }
-}
-
-// Whether a live statement or a phi reads value m.
-fn is_read(live: &[u32], phi: &[u32], m: usize) -> bool
-    ensures { λ r. ⌜ r ≡ readBy (now (live .entry)) (now (phi .entry)) m ⌝ }
-{
-    if at_u32(live, m) != 0 {
-        return true;
-    }
-    at_u32(phi, m) != 0
 }
 
 // The code of the value at place k of the lists, whose places begin at `base`: 0 where it is RSP's or nobody reads it.

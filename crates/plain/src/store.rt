@@ -1,14 +1,14 @@
 // The line of a Store.
-use crate::parts::PUNCT;
-use crate::parts::end_stmt;
-use crate::parts::is_dead;
 use crate::parts::put_becomes;
 use crate::parts::put_expr;
-use crate::saves::is_save;
 use calls::pushes::taken_behind;
+use lowering::kinds::PUNCT;
+use lowering::line::end_stmt;
+use marks::saves::is_save;
 use meaning::meaning::bits_of;
 use offsets::address::stack_off;
-use records::contents::stmt_word;
+use records::owners::is_dead;
+use records::owners::is_pushed;
 use records::owners::stmt_field;
 use room::out::Out;
 use room::put::put;
@@ -40,10 +40,10 @@ fn is_taken(f: &[u8], i: u32, end: u32) -> bool
     if bits_of(f) != 32 {
         return false;
     }
-    if stmt_word(f, i, 2) / 4 % 2 != 1 {
-        return false;
+    if is_pushed(f, i) {
+        return taken_behind(f, i, end);
     }
-    taken_behind(f, i, end)
+    false
 }
 
 // Whether it prints nothing: such a push, or the prologue's save of a callee-saved register.

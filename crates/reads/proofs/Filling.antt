@@ -5,11 +5,12 @@ use mathlib.Core.List.{List, [], _∷_, _++_, append-nil}
 use Prim.Native.Nat.{ℕ, zero, suc, _+_, _-_, _≤_, _<_}
 use native.Mathlib.Decide.{decLt}
 use native.Mathlib.Omega.{arith}
-use lib.ListN.{length, getD, set, replicate, length-append, length-replicate, List·getD-append}
-use lib.Seq.{append-snoc, getD-at, set-append-seam}
+use lib.ListN.{length, getD, set, replicate, length-append, List·getD-append}
+use lib.Seq.{append-snoc, getD-at}
 use borrow.Author.Tests.{ne-eqb, lt-ltb, le-ltb}
 use Rattle.definition.specs.Contents.{exprWord}
 use Rattle.definition.specs.Listing.{padded}
+use Rattle.records.proofs.Padded.{padded-set, length-padded}
 use Rattle.reads.specs.Uses.{nodeUses, usesBelow}
 use Rattle.reads.specs.Filling.{Filling, filling, put, putAll, usesUnder}
 
@@ -32,17 +33,6 @@ pub put-more : (p q r : Filling) (xs ys : List ℕ) → q ≡ putAll p xs → r 
 put-more p q r xs ys a b = b ∙ ap (λ (s : Filling). putAll s ys) a ∙ sym (put-append p xs ys)
 
 -- ---- into zeros
--- the next number behind those that stand there
-pub padded-more : (n : ℕ) (l : List ℕ) (x : ℕ) → length l < n → set (padded n l) (length l) x ≡ padded n (l ++ (x ∷ []))
-unfolding padded
-padded-more n l x h =
-    let a : n - length l ≡ suc (n - length (l ++ (x ∷ []))) = omega (arith, length-append l (x ∷ [])) in
-    rw a (set-append-seam l 0 (replicate (n - length (l ++ (x ∷ []))) 0) x ∙ sym (append-snoc l x (replicate (n - length (l ++ (x ∷ []))) 0)))
-
-pub padded-length : (n : ℕ) (l : List ℕ) → length l ≤ n → length (padded n l) ≡ n
-unfolding padded
-padded-length n l h = omega (arith, length-append l (replicate (n - length l) 0), length-replicate {A = ℕ} (n - length l) 0)
-
 pub padded-none : (n : ℕ) → replicate n 0 ≡ padded n []
 unfolding padded
 padded-none n = let a : n - 0 ≡ n = omega arith in sym (rw a)
@@ -53,9 +43,9 @@ filled-on n [] l h = let a : length l + 0 ≡ length l = omega arith in rw (appe
 filled-on n (x ∷ xs) l h =
     let a : length (l ++ (x ∷ [])) ≡ length l + 1 = length-append l (x ∷ []) in
     let b : length l + 1 + length xs ≡ length l + suc (length xs) = omega arith in
-    let c : length l < length (padded n l) = omega (arith, padded-length n l (omega arith)) in
+    let c : length l < length (padded n l) = omega (arith, length-padded n l (omega arith)) in
     ap (λ (r : Filling). putAll r xs)
-    (sym (put-in (padded n l) (length l) x c) ∙ rw (padded-more n l x (omega arith), ← a))
+    (sym (put-in (padded n l) (length l) x c) ∙ rw (padded-set n l x (omega arith), ← a))
     ∙ filled-on n xs (l ++ (x ∷ [])) (omega arith)
     ∙ rw (append-snoc l x xs, a, b)
 

@@ -19,10 +19,11 @@ use Rattle.definition.proofs.Bools.{is-true}
 use Rattle.definition.proofs.ListLaws.{total-append}
 use Rattle.records.proofs.Also.{and-both}
 use Rattle.records.proofs.Below.{all-fail, sum-add, sum-same}
+use Rattle.records.proofs.Ranges.{gather-last}
 use Rattle.values.proofs.Ranges.{gather-length}
 use Rattle.reads.specs.Uses.{nodeUses, usesBelow, usesIn, stmtUses, useOrder}
 use Rattle.reads.specs.Filling.{usesUnder}
-use Rattle.reads.proofs.Statements.{gather-last, sum-mono}
+use Rattle.reads.proofs.Statements.{sum-mono}
 use Rattle.reads.proofs.Filling.{under-is, under-none}
 
 -- ---- sums

@@ -8,6 +8,7 @@ pub mod Nodes
 pub mod Live
 pub mod Readers
 pub mod Phis
+pub mod ReadAtAll
 pub mod Loading
 pub mod Forest
 pub mod Unique

@@ -1,7 +1,7 @@
 -- What live statements read, as the values of their Use nodes in order; so the table that is raised at each of these nodes counts the reads.
 use mathlib.Core.Path.{_≡_, refl, sym, ap, _∙_}
 use mathlib.Core.Bool.{Bool, true, false, not, cond}
-use mathlib.Core.List.{List, [], _∷_, _++_, map, map-append}
+use mathlib.Core.List.{List, [], map}
 use Prim.Native.Nat.{ℕ, _+_, _≤_}
 use native.Mathlib.Omega.{arith}
 use lib.ListN.{length, getD, replicate, length-map}
@@ -15,11 +15,12 @@ use Rattle.definition.specs.Values.{eqv}
 use Rattle.definition.specs.Ssa.{Stmt, uses}
 use Rattle.definition.specs.Read.{allTrees, kindAt, stmtAt, marked, read}
 use Rattle.definition.specs.Inline.{live, reads}
+use Rattle.records.proofs.Ranges.{gather-only, map-gather}
 use Rattle.values.specs.Keys.{placesOf}
 use Rattle.values.specs.Tables.{at, numbered, table}
 use Rattle.values.proofs.Ranges.{gather-length}
 use Rattle.values.proofs.Placed.{keyed-length}
-use Rattle.values.proofs.Tables.{table-zero, table-same}
+use Rattle.values.proofs.Tables.{table-same, zeros-are}
 use Rattle.reads.specs.Uses.{stmtUses, useStart, useValue}
 use Rattle.reads.specs.Counts.{raised, visit, slots, liveUses, Numbers, Runs}
 use Rattle.reads.proofs.Trees.{uses-are}
@@ -27,22 +28,6 @@ use Rattle.reads.proofs.Statements.{gather-same, sum-mono, stmts-are}
 use Rattle.reads.proofs.Nodes.{each-gather, live-nodes}
 use Rattle.reads.proofs.Visits.{liveFrom, start-at}
 use Rattle.reads.proofs.Named.{uses-named, raise-all}
-
--- ---- the elements of which a test holds, one list behind the other
-module _ {A : Type 0} {B : Type 0} {C : Type 0} (h : B → List C) (p : B → Bool) (g : A → B) where
-  gather-only : (xs : List A) → gather h (only p (map g xs)) ≡ gather (λ x. cond (p (g x)) (h (g x)) []) xs
-  unfolding gather only
-  gather-only [] = refl
-  gather-only (x ∷ xs) = go (p (g x)) (gather-only xs)
-    where
-      go : (b : Bool) {l : List C} → gather h (only p (map g xs)) ≡ l → gather h (cond b (g x ∷ only p (map g xs)) (only p (map g xs))) ≡ cond b (h (g x)) [] ++ l
-      go true r = ap (λ l. h (g x) ++ l) r
-      go false r = r
-
-map-gather : {A : Type 0} {B : Type 0} {C : Type 0} (k : B → C) (g : A → List B) (xs : List A) → map k (gather g xs) ≡ gather (λ x. map k (g x)) xs
-unfolding gather
-map-gather k g [] = refl
-map-gather k g (x ∷ xs) = map-append k (g x) (gather g xs) ∙ ap (λ l. map k (g x) ++ l) (map-gather k g xs)
 
 -- ---- what live statements read
 module _ (f : List ℕ) where
@@ -76,9 +61,6 @@ module _ (f : List ℕ) where
 
 -- ---- the table
 module _ (f : List ℕ) (n : ℕ) (own : owned f ≡ true) (room : placesOf f .total ≤ n) where
-  pub zeros-are : replicate n 0 ≡ table f n (λ v. 0)
-  zeros-are = sym (table-zero f n ∙ ap (λ (k : ℕ). replicate k 0) (keyed-length f n own room))
-
   pub live-table : ((k : ℕ) → Fits w8 (getD f k 0)) → (order starts : List ℕ) → Runs f order starts → ((k : ℕ) → Fits w32 (getD starts k 0)) → (E : Edition)
       → visit raised (replicate n 0) (slots (numbered f n) (placesOf f .exprs) (liveFrom f 0 (size f statements))) ≡ table f n (λ v. count (eqv v) (reads (read E f)))
   unfolding liveFrom at
@@ -88,7 +70,7 @@ module _ (f : List ℕ) (n : ℕ) (own : owned f ≡ true) (room : placesOf f .t
       let vs = map (useValue f) l in
       let small : length vs ≤ 4294967295 =
       omega (arith, length-map l (useValue f), live-few f, start-at f starts (length starts) m (r .begins) (omega arith), words m) in
-      ap (λ (t : List ℕ). visit raised t (slots (numbered f n) (placesOf f .exprs) l)) zeros-are
+      ap (λ (t : List ℕ). visit raised t (slots (numbered f n) (placesOf f .exprs) l)) (zeros-are f n (keyed-length f n own room))
       ∙ raise-all f n (uses-named f n own room bytes (each-gather (liveUses f) (live-nodes f) (range 0 m))) (λ v. 0) (λ w. omega arith)
       ∙ table-same f n (λ w. 0 + count (eqv w) vs) (λ w. count (eqv w) (reads (read E f)))
       (λ w.

@@ -17,10 +17,12 @@ use Rattle.definition.specs.Ssa.Expr.{Const, Use, Bin, Un, Load, Opaque}
 use Rattle.definition.specs.Read.{treeAt, opText, tree, trees, allTrees}
 use Rattle.definition.specs.Inline.{hasLoad}
 use Rattle.definition.specs.Listing.{padded}
+use Rattle.records.proofs.Padded.{padded-set}
 use Rattle.values.specs.Tables.{at}
+use Rattle.values.proofs.Ranges.{zeros-at}
 use Rattle.reads.specs.Loads.{loadOf, loadsBelow, loadBit}
 use Rattle.reads.proofs.Trees.{Both, none-left, and-then, both-append, both-at}
-use Rattle.reads.proofs.Filling.{padded-more, padded-none}
+use Rattle.reads.proofs.Filling.{padded-none}
 
 -- ---- the table and the trees
 module _ (E : Edition) (f : List ℕ) where
@@ -67,15 +69,9 @@ all-say none-left = refl
 all-say (and-then p h) = ap₂ (λ (a : ℕ) (l : List ℕ). a ∷ l) p (all-say h)
 
 -- ---- zeros behind
-zero-at : (m i : ℕ) → at (replicate m 0) i ≡ 0
-unfolding at
-zero-at zero i = refl
-zero-at (suc m) zero = refl
-zero-at (suc m) (suc i) = zero-at m i
-
 behind : (l : List ℕ) (m i : ℕ) → at (l ++ replicate m 0) i ≡ at l i
 unfolding at
-behind [] m i = zero-at m i
+behind [] m i = zeros-at m i
 behind (x ∷ l) m zero = refl
 behind (x ∷ l) m (suc i) = behind l m i
 
@@ -128,7 +124,7 @@ load-turn f l n m i x c h room e p =
     let s : i + 1 ≡ suc i = omega arith in
     let k = below-length f i in
     let v : x ≡ loadOf f (loadsBelow f i) i = p ∙ ap (λ (z : List ℕ). loadOf f z i) e ∙ same-of f n (loadsBelow f i) i in
-    let u : set (padded n (loadsBelow f i)) (length (loadsBelow f i)) x ≡ padded n (loadsBelow f i ++ (x ∷ [])) = padded-more n (loadsBelow f i) x (omega arith) in
+    let u : set (padded n (loadsBelow f i)) (length (loadsBelow f i)) x ≡ padded n (loadsBelow f i ++ (x ∷ [])) = padded-set n (loadsBelow f i) x (omega arith) in
     rw (e, s) (rw k at u ∙ ap (λ (y : ℕ). padded n (loadsBelow f i ++ (y ∷ []))) v)
 
 pub load-end : (f l : List ℕ) (n m i : ℕ) → m ≡ size f expressions → i ≤ m → m ≤ i → l ≡ loaded f n i → (E : Edition) → l ≡ padded n (map (λ x. cond (hasLoad x) 1 0) (allTrees E f))

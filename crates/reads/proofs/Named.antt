@@ -1,7 +1,7 @@
 -- A place that is visited at a value's number changes the table at that value alone. So a table of zeros, raised at the number of each value that is
 -- read, says how often it is; and marked there, it says whether it is, or where it is last.
-use mathlib.Core.Path.{_≡_, refl, sym, ap, ap₂, _∙_}
-use mathlib.Core.Bool.{Bool, true, false, cond, _&&_, _||_}
+use mathlib.Core.Path.{_≡_, refl, sym, ap, _∙_}
+use mathlib.Core.Bool.{Bool, true, false, cond, _||_}
 use mathlib.Core.List.{List, [], _∷_, map}
 use Prim.Native.Nat.{ℕ, suc, _+_, _-_, _≤_, _<_}
 use native.Mathlib.Omega.{arith}
@@ -13,22 +13,19 @@ use Rattle.definition.specs.Lists.{count, any}
 use Rattle.definition.specs.Contents.{place}
 use Rattle.definition.specs.Shape.{owned}
 use Rattle.definition.specs.Values.{Value, eqv, within}
-use Rattle.definition.proofs.Bools.{by-test, eqb-swap}
+use Rattle.definition.proofs.Bools.{by-test}
 use Rattle.definition.proofs.ListLaws.{Each, end, _▸_}
 use Rattle.words.proofs.Laws.{word-small}
+use Rattle.definition.proofs.Equal.{eqv-true}
 use Rattle.values.specs.Keys.{keyOf, exprKey, placesOf, keyed}
 use Rattle.values.specs.Tables.{at, numbered, table}
-use Rattle.values.proofs.Tables.{eqv-true, table-read, table-write, table-same}
+use Rattle.values.proofs.Tables.{table-read, table-write, table-same, eqv-swap}
 use Rattle.values.proofs.Placed.{at-expr, expr-here, keyed-length}
 use Rattle.reads.specs.Uses.{useValue}
 use Rattle.reads.specs.Counts.{raised, placed, visit, slots}
 use Rattle.reads.proofs.Trees.{Both, none-left, and-then}
 use Rattle.reads.proofs.Nodes.{IsUse}
 use Rattle.reads.proofs.Visits.{place-is}
-
-eqv-swap : (v w : Value) → eqv v w ≡ eqv w v
-unfolding eqv
-eqv-swap v w = ap₂ (λ (a b : Bool). a && b) (eqb-swap (v .reg) (w .reg)) (eqb-swap (v .ver) (w .ver))
 
 -- s is the number of a place that names v, among the first n
 pub record Names (f : List ℕ) (n s : ℕ) (v : Value) : Type 0 where

@@ -7,14 +7,14 @@ use lib.Dec.{eqb}
 use lib.ListN.{getD}
 use borrow.Author.Tests.{eqb-true}
 use Rattle.definition.specs.Codes.{tUse, tBin, tUn, tLoad}
-use Rattle.definition.specs.Edition.{statements, expressions}
-use Rattle.definition.specs.Lists.{gather, range}
+use Rattle.definition.specs.Edition.{expressions}
+use Rattle.definition.specs.Lists.{gather}
 use Rattle.definition.specs.Contents.{size, exprWord}
 use Rattle.definition.specs.References.{roots}
 use Rattle.definition.specs.Read.{marked}
 use Rattle.definition.proofs.Bools.{by-cond}
 use Rattle.definition.proofs.ListLaws.{Each, end, _▸_, each-append}
-use Rattle.reads.specs.Uses.{nodeUses, usesBelow, usesIn, stmtUses, useOrder}
+use Rattle.reads.specs.Uses.{nodeUses, usesBelow, usesIn, stmtUses}
 use Rattle.reads.specs.Counts.{liveUses}
 
 -- n is a Use node of the file
@@ -61,8 +61,3 @@ module _ (f : List ℕ) where
   pub live-nodes : (i : ℕ) → Each (IsUse f) (liveUses f i)
   unfolding liveUses
   live-nodes i = by-cond Uses (marked f i 1) (λ e. end) (λ e. stmt-nodes i)
-
-  -- every node that is written is a Use node
-  pub order-nodes : Each (IsUse f) (useOrder f)
-  unfolding useOrder
-  order-nodes = each-gather (stmtUses f) stmt-nodes (range 0 (size f statements))

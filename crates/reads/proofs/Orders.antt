@@ -10,13 +10,14 @@ use Rattle.definition.specs.Contents.{size}
 use Rattle.definition.specs.Owners.{firstItem}
 use Rattle.definition.specs.Listing.{padded}
 use Rattle.records.proofs.Below.{sum-le}
+use Rattle.records.proofs.Ranges.{range-last, gather-last}
+use Rattle.records.proofs.Padded.{padded-set}
 use Rattle.references.specs.Named.{rootCount, rootAt}
 use Rattle.references.proofs.Naming.{roots-are}
 use Rattle.values.proofs.Ranges.{map-length, gather-length}
 use Rattle.reads.specs.Uses.{usesIn, stmtUses, useOrder, useStart, useStarts}
 use Rattle.reads.specs.Filling.{Filling, filling, putAll, usesUnder}
-use Rattle.reads.proofs.Filling.{put-append, put-more, filled, padded-more, padded-none}
-use Rattle.reads.proofs.Statements.{range-last, gather-last}
+use Rattle.reads.proofs.Filling.{put-append, put-more, filled, padded-none}
 
 -- ---- the roots of statement i, of which m are left from the j-th on
 unfoldable pub rootUses : List ℕ → ℕ → ℕ → ℕ → ℕ → List ℕ
@@ -69,7 +70,7 @@ starts-turn f m n i x l c h room e a =
     let s : i + 1 ≡ suc i = omega arith in
     let k = map-length (useStart f) 0 i in
     let u : set (padded m (map (useStart f) (range 0 i))) (length (map (useStart f) (range 0 i))) (useStart f i) ≡ padded m (map (useStart f) (range 0 i) ++ (useStart f i ∷ [])) =
-    padded-more m (map (useStart f) (range 0 i)) (useStart f i) (omega arith) in
+    padded-set m (map (useStart f) (range 0 i)) (useStart f i) (omega arith) in
     rw (a, e, s, range-last i) (rw k at u ∙ ap (padded m) (sym (map-append (useStart f) (range 0 i) (i ∷ []))))
 
 pub start-length : (f : List ℕ) (i : ℕ) → length (usesBefore f i) ≡ useStart f i

@@ -17,14 +17,15 @@ use Rattle.definition.specs.Ssa.{Phi}
 use Rattle.definition.specs.Read.{phiAt, read}
 use Rattle.definition.specs.Inline.{phiReads}
 use Rattle.words.proofs.Laws.{word-small}
+use Rattle.records.proofs.Ranges.{gather-map, gather-last}
 use Rattle.values.specs.Keys.{inputKey, placesOf}
 use Rattle.values.specs.Tables.{at, numbered, table}
 use Rattle.values.proofs.Placed.{at-input, input-here, keyed-length, owned-inputs}
+use Rattle.values.proofs.Tables.{zeros-are}
 use Rattle.reads.specs.Counts.{placed, visit, slots, Numbers}
 use Rattle.reads.proofs.Trees.{Both, none-left, and-then, both-append}
-use Rattle.reads.proofs.Statements.{gather-map, gather-same, map-map, gather-last, runs, phis-are}
+use Rattle.reads.proofs.Statements.{gather-same, map-map, runs, phis-are}
 use Rattle.reads.proofs.Named.{Names, mark-all}
-use Rattle.reads.proofs.Live.{zeros-are}
 
 -- ---- lists side by side
 module _ {A : Type 0} {B : Type 0} {P : A → B → Type 0} where
@@ -84,7 +85,7 @@ module _ (f : List ℕ) (n : ℕ) (own : owned f ≡ true) (room : placesOf f .t
   phi-table : (E : Edition) → visit (placed 1) (replicate n 0) (slots (numbered f n) (placesOf f .inputs) (range 0 (size f inputs)))
       ≡ table f n (λ v. cond (within v (phiReads (read E f))) 1 0)
   phi-table E =
-      ap (λ (t : List ℕ). visit (placed 1) t (slots (numbered f n) (placesOf f .inputs) (range 0 (size f inputs)))) (zeros-are f n own room)
+      ap (λ (t : List ℕ). visit (placed 1) t (slots (numbered f n) (placesOf f .inputs) (range 0 (size f inputs)))) (zeros-are f n (keyed-length f n own room))
       ∙ ap (visit (placed 1) (table f n (λ v. 0))) slots-are
       ∙ mark-all f n inputs-named 1 (λ v. 0)
       ∙ ap (λ (vs : List Value). table f n (λ v. cond (within v vs) 1 0)) (sym (values-are E))

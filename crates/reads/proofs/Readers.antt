@@ -25,13 +25,14 @@ use Rattle.meaning.proofs.Ranges.{count-gather}
 use Rattle.records.proofs.Below.{sum-turn, sum-le}
 use Rattle.values.specs.Keys.{placesOf}
 use Rattle.values.specs.Tables.{numbered, table}
-use Rattle.values.proofs.Tables.{table-same}
+use Rattle.values.proofs.Tables.{table-same, zeros-are}
+use Rattle.values.proofs.Placed.{keyed-length}
 use Rattle.reads.specs.Uses.{stmtUses, useValue}
 use Rattle.reads.specs.Counts.{placed, visit, slots, liveUses, readsAt, readerBelow, lastReader}
 use Rattle.reads.proofs.Trees.{uses-are}
 use Rattle.reads.proofs.Nodes.{live-nodes}
 use Rattle.reads.proofs.Named.{uses-named, mark-all}
-use Rattle.reads.proofs.Live.{reads-are, zeros-are}
+use Rattle.reads.proofs.Live.{reads-are}
 
 -- ---- the table, statement by statement
 module _ (f : List ℕ) where
@@ -54,7 +55,7 @@ module _ (f : List ℕ) where
 
   pub readers-start : (n : ℕ) (t : List ℕ) → owned f ≡ true → placesOf f .total ≤ n → t ≡ replicate n 0 → t ≡ table f n (readerBelow f 0)
   unfolding readerBelow
-  readers-start n t own room e = e ∙ zeros-are f n own room ∙ table-same f n (λ v. 0) (readerBelow f 0) (λ v. refl)
+  readers-start n t own room e = e ∙ zeros-are f n (keyed-length f n own room) ∙ table-same f n (λ v. 0) (readerBelow f 0) (λ v. refl)
 
   pub readers-end : (n m i : ℕ) (t : List ℕ) → m ≡ size f statements → i ≤ m → m ≤ i → t ≡ table f n (readerBelow f i) → t ≡ table f n (lastReader f)
   unfolding lastReader

@@ -2,7 +2,7 @@
 -- the values that live statements read are those that the Use nodes of live statements name. The same of phis.
 use mathlib.Core.Path.{_≡_, refl, sym, ap, ap₂, _∙_}
 use mathlib.Core.Bool.{true, _&&_}
-use mathlib.Core.List.{List, [], _∷_, _++_, map, map-append, append-nil, append-assoc}
+use mathlib.Core.List.{List, [], _∷_, _++_, map, map-append}
 use Prim.Native.Nat.{ℕ, zero, suc, _+_, _≤_, _<_}
 use native.Mathlib.Omega.{arith}
 use lib.Dec.{eqb}
@@ -15,14 +15,9 @@ use Rattle.definition.specs.Shape.{owned}
 use Rattle.definition.specs.Ssa.{Block, stmtsOf, phisOf}
 use Rattle.definition.specs.Read.{allTrees, stmtAt, phiAt, blockAt, read}
 use Rattle.records.proofs.Also.{and-both}
-use Rattle.values.proofs.Ranges.{range-parts}
+use Rattle.records.proofs.Ranges.{range-parts, gather-map, gather-last}
 
 -- ---- lists one behind the other
-pub gather-map : {A : Type 0} {B : Type 0} {C : Type 0} (h : B → List C) (g : A → B) (xs : List A) → gather h (map g xs) ≡ gather (λ x. h (g x)) xs
-unfolding gather
-gather-map h g [] = refl
-gather-map h g (x ∷ xs) = ap (λ l. h (g x) ++ l) (gather-map h g xs)
-
 pub gather-same : {A : Type 0} {B : Type 0} (g h : A → List B) → ((x : A) → g x ≡ h x) → (xs : List A) → gather g xs ≡ gather h xs
 unfolding gather
 gather-same g h e [] = refl
@@ -31,26 +26,6 @@ gather-same g h e (x ∷ xs) = ap₂ (λ (a b : List _). a ++ b) (e x) (gather-s
 pub map-map : {A : Type 0} {B : Type 0} {C : Type 0} (h : B → C) (g : A → B) (xs : List A) → map h (map g xs) ≡ map (λ x. h (g x)) xs
 map-map h g [] = refl
 map-map h g (x ∷ xs) = ap (λ l. h (g x) ∷ l) (map-map h g xs)
-
-module _ {A : Type 0} {B : Type 0} (g : A → List B) where
-  pub gather-append : (xs ys : List A) → gather g (xs ++ ys) ≡ gather g xs ++ gather g ys
-  unfolding gather
-  gather-append [] ys = refl
-  gather-append (x ∷ xs) ys = rw (gather-append xs ys) (sym (append-assoc (g x) (gather g xs) (gather g ys)))
-
-  pub gather-one : (x : A) → gather g (x ∷ []) ≡ g x
-  unfolding gather
-  gather-one x = append-nil (g x)
-
-pub range-last : (n : ℕ) → range 0 (suc n) ≡ range 0 n ++ (n ∷ [])
-unfolding range
-range-last n =
-    let p : suc n ≡ n + 1 = omega arith in
-    let q : 0 + n ≡ n = omega arith in
-    ap (range 0) p ∙ range-parts 0 n 1 ∙ ap (λ (k : ℕ). range 0 n ++ (k ∷ [])) q
-
-pub gather-last : {B : Type 0} (g : ℕ → List B) (n : ℕ) → gather g (range 0 (suc n)) ≡ gather g (range 0 n) ++ g n
-gather-last g n = ap (gather g) (range-last n) ∙ gather-append g (range 0 n) (n ∷ []) ∙ ap (λ l. gather g (range 0 n) ++ l) (gather-one g n)
 
 -- runs that go on where the one before ends are one run
 pub runs : {A : Type 0} (g : ℕ → A) (h : ℕ → ℕ) (n : ℕ) → gather (λ i. map g (range (sumBelow i h) (h i))) (range 0 n) ≡ map g (range 0 (sumBelow n h))
@@ -71,9 +46,9 @@ sum-mono g h (suc n) p = omega (arith, sum-mono g h n (λ i k. p i (omega arith)
 
 -- ---- the parts of all blocks
 module _ (f : List ℕ) (own : owned f ≡ true) where
-  counts : (firstPhi f (size f blocks) ≡ size f phis) × (firstStmt f (size f blocks) ≡ size f statements)
+  pub owned-parts : (firstPhi f (size f blocks) ≡ size f phis) × (firstStmt f (size f blocks) ≡ size f statements)
   unfolding owned
-  counts =
+  owned-parts =
       let a = eqb (firstPhi f (size f blocks)) (size f phis) in
       let b = eqb (firstStmt f (size f blocks)) (size f statements) in
       let c = eqb (firstInput f (size f phis)) (size f inputs) in
@@ -86,11 +61,11 @@ module _ (f : List ℕ) (own : owned f ≡ true) where
   stmts-are E =
       gather-map (λ (b : Block). b .stmts) (blockAt E f (allTrees E f)) (range 0 (size f blocks))
       ∙ runs (stmtAt E f (allTrees E f)) (blockStmts f) (size f blocks)
-      ∙ ap (λ (n : ℕ). map (stmtAt E f (allTrees E f)) (range 0 n)) (counts .1)
+      ∙ ap (λ (n : ℕ). map (stmtAt E f (allTrees E f)) (range 0 n)) (owned-parts .1)
 
   pub phis-are : (E : Edition) → phisOf (read E f) ≡ map (phiAt f) (range 0 (size f phis))
   unfolding phisOf read blockAt firstPhi
   phis-are E =
       gather-map (λ (b : Block). b .phis) (blockAt E f (allTrees E f)) (range 0 (size f blocks))
       ∙ runs (phiAt f) (blockPhis f) (size f blocks)
-      ∙ ap (λ (n : ℕ). map (phiAt f) (range 0 n)) (counts .0)
+      ∙ ap (λ (n : ℕ). map (phiAt f) (range 0 n)) (owned-parts .0)

@@ -1,11 +1,12 @@
--- Each contract of this crate is an equation for the table that is left, so no second one meets it. Where it holds for every edition, one is enough.
+-- Each contract of this crate is an equation for the table that is left, or for the answer, so no second one meets it. Where it holds for every edition, one is enough.
 use mathlib.Core.Path.{_≡_, sym, _∙_}
+use mathlib.Core.Bool.{Bool}
 use mathlib.Core.List.{List}
 use Prim.Native.Nat.{ℕ}
 use Rattle.definition.specs.Edition.{edition1}
 use Rattle.values.specs.Tables.{table}
 use Rattle.reads.specs.Orders.{Ordered}
-use Rattle.reads.specs.Counts.{lastReader, LiveReads, PhiReads}
+use Rattle.reads.specs.Counts.{placed, visit, slots, between, lastReader, readBy, LiveReads, PhiReads}
 use Rattle.reads.specs.Loads.{Loads}
 
 pub order : (f : List ℕ) (m n : ℕ) (o p s t : List ℕ) → Ordered f m n o s → Ordered f m n p t → (o ≡ p) × (s ≡ t)
@@ -22,3 +23,10 @@ phi-reads f n t u p q = p edition1 ∙ sym (q edition1)
 
 pub readers : (f : List ℕ) (n : ℕ) (t u : List ℕ) → t ≡ table f n (lastReader f) → u ≡ table f n (lastReader f) → t ≡ u
 readers f n t u p q = p ∙ sym q
+
+pub mark-run : (numbers order : List ℕ) (base a b x : ℕ) (e t u : List ℕ) → t ≡ visit (placed x) e (slots numbers base (between order a b))
+    → u ≡ visit (placed x) e (slots numbers base (between order a b)) → t ≡ u
+mark-run numbers order base a b x e t u p q = p ∙ sym q
+
+pub is-read : (live phi : List ℕ) (m : ℕ) (r s : Bool) → r ≡ readBy live phi m → s ≡ readBy live phi m → r ≡ s
+is-read live phi m r s p q = p ∙ sym q

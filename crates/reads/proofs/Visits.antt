@@ -2,16 +2,15 @@
 use mathlib.Core.Path.{_≡_, refl, sym, ap, _∙_}
 use mathlib.Core.Bool.{Bool, true, false}
 use mathlib.Core.List.{List, [], _∷_, _++_, map, map-append}
-use Prim.Native.Nat.{ℕ, zero, suc, _+_, _-_, _/_, _%_, _≤_, _<_}
+use Prim.Native.Nat.{ℕ, zero, suc, _+_, _-_, _≤_, _<_}
 use native.Mathlib.Omega.{arith}
-use lib.Dec.{eqb}
 use lib.ListN.{length, getD, set, replicate}
 use mir.Syntax.{w8}
 use mir.Val.{Fits}
 use borrow.Author.Tests.{lt-ltb, le-ltb}
 use Rattle.definition.specs.Edition.{statements}
 use Rattle.definition.specs.Lists.{gather, range, sumBelow}
-use Rattle.definition.specs.Contents.{size, stmtWord}
+use Rattle.definition.specs.Contents.{size}
 use Rattle.definition.specs.Read.{marked}
 use Rattle.definition.specs.Listing.{padded}
 use Rattle.records.proofs.Below.{sum-turn, sum-le}
@@ -28,10 +27,6 @@ unfoldable pub liveFrom : List ℕ → ℕ → ℕ → List ℕ
 liveFrom f i m = gather (liveUses f) (range i m)
 
 -- ---- one step
-pub dead-is : (f : List ℕ) (i w : ℕ) → w ≡ stmtWord f i 2 → eqb (w % 2) 1 ≡ marked f i 1
-unfolding marked
-dead-is f i w e = let d : w / 1 ≡ w = omega arith in rw (← e, d)
-
 pub raise-in : (l m : List ℕ) (i x : ℕ) → x ≡ at l i → x < 4294967295 → m ≡ set l i (x + 1) → m ≡ raised l i
 unfolding raised
 raise-in l m i x e h p = p ∙ rw (← e, lt-ltb x 4294967295 h)

@@ -1,9 +1,9 @@
 -- Tables by value number, written at the numbers of the places that are visited; who reads a value last.
 use mathlib.Core.Path.{_≡_}
-use mathlib.Core.Bool.{Bool, true, not, cond, _&&_}
+use mathlib.Core.Bool.{Bool, true, not, cond, _&&_, _||_}
 use mathlib.Core.List.{List, [], _∷_, map}
 use Prim.Native.Nat.{ℕ, zero, suc, _+_, _-_, _≤_}
-use lib.Dec.{ltb}
+use lib.Dec.{eqb, ltb}
 use lib.ListN.{length, set, replicate}
 use Rattle.definition.specs.Edition.{Edition, statements}
 use Rattle.definition.specs.Lists.{count, range}
@@ -51,6 +51,10 @@ readerBelow f (suc n) v = cond (readsAt f v n) (suc n) (readerBelow f n v)
 
 unfoldable pub lastReader : List ℕ → Value → ℕ
 lastReader f v = readerBelow f (size f statements) v
+
+-- is value m read, by the tables of what live statements and phis read
+unfoldable pub readBy : List ℕ → List ℕ → ℕ → Bool
+readBy live phi m = not (eqb (at live m) 0) || not (eqb (at phi m) 0)
 
 -- what is asked: value numbers, and a table of zeros that goes by them
 pub record Numbers (f numbers tab : List ℕ) : Type 0 where

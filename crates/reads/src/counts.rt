@@ -2,7 +2,7 @@
 use records::contents::INPUTS;
 use records::contents::STATEMENTS;
 use records::contents::size_of;
-use records::contents::stmt_word;
+use records::owners::is_dead;
 use values::places::places_of;
 use values::read::at_u32;
 use values::read::put_u32;
@@ -11,16 +11,8 @@ ghost use Prim.Native.Nat.{_+_, _<_};
 ghost use lib.ListN.{length};
 ghost use Rattle.definition.specs.Edition.{statements};
 ghost use Rattle.definition.specs.Contents.{size};
-ghost use Rattle.definition.specs.Read.{marked};
 ghost use Rattle.values.specs.Tables.{table};
-ghost use Rattle.reads.specs.Counts.{raised, placed, visit, slots, between, liveUses, lastReader, Numbers, Runs, LiveReads, PhiReads};
-
-// Whether statement i is dead.
-fn is_dead(f: &[u8], i: u32) -> bool
-    ensures { λ r. ⌜ r ≡ marked (now (f .entry)) i 1 ⌝ }
-{
-    stmt_word(f, i, 2) % 2 == 1
-}
+ghost use Rattle.reads.specs.Counts.{raised, placed, visit, slots, between, liveUses, lastReader, readBy, Numbers, Runs, LiveReads, PhiReads};
 
 // One more; the greatest number stays, so that it never overflows.
 fn raise(tab: &mut [u32], i: usize)
@@ -83,7 +75,15 @@ pub fn live_reads(tab: &mut [u32], f: &[u8], numbers: &[u32], order: &[u32], sta
 }
 
 // x at the numbers of the nodes from a to b.
-fn mark_run(tab: &mut [u32], numbers: &[u32], order: &[u32], base: usize, a: u32, b: u32, x: u32)
+pub fn mark_run(
+    tab: &mut [u32],
+    numbers: &[u32],
+    order: &[u32],
+    base: usize,
+    a: u32,
+    b: u32,
+    x: u32,
+)
     requires { ⌜ base < 34359738368 ⌝ }
     ensures { λ _. ⌜ now (tab .exit) ≡ visit (placed x) (now (tab .entry)) (slots (now (numbers .entry)) base (between (now (order .entry)) a b)) ⌝ }
 {
@@ -145,4 +145,14 @@ pub fn phi_reads(tab: &mut [u32], f: &[u8], numbers: &[u32])
         put_u32(tab, at_u32(numbers, base + k as usize) as usize, 1);
         k += 1;
     }
+}
+
+// Whether a live statement or a phi reads value m.
+pub fn is_read(live: &[u32], phi: &[u32], m: usize) -> bool
+    ensures { λ r. ⌜ r ≡ readBy (now (live .entry)) (now (phi .entry)) m ⌝ }
+{
+    if at_u32(live, m) != 0 {
+        return true;
+    }
+    at_u32(phi, m) != 0
 }

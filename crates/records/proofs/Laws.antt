@@ -1,13 +1,15 @@
--- Where a word stands, without a sum that leaves 64 bits, and a statement's items by its kind.
+-- Where a word stands, without a sum that leaves 64 bits, a statement's marks by their word, and its items by its kind.
 use mathlib.Core.Path.{_≡_, sym, _∙_}
 use mathlib.Core.List.{List}
-use Prim.Native.Nat.{ℕ, _+_, _*_, _≤_, _<_}
+use Prim.Native.Nat.{ℕ, _+_, _*_, _/_, _%_, _≤_, _<_}
 use native.Mathlib.Nat.{mul-le-mul}
 use native.Mathlib.Omega.{arith}
+use lib.Dec.{eqb}
 use borrow.Author.Tests.{eq-eqb, ne-eqb}
 use Rattle.definition.specs.Words.{word, long}
-use Rattle.definition.specs.Contents.{offset, place}
+use Rattle.definition.specs.Contents.{offset, place, stmtWord}
 use Rattle.definition.specs.Owners.{stmtKind, stmtField, exprItems, valueItems, items}
+use Rattle.definition.specs.Read.{marked}
 
 -- a record's number times its words
 pub scaled : (w i : ℕ) → w ≤ 16 → i < 4294967296 → w * i ≤ 16 * 4294967295
@@ -22,6 +24,16 @@ word-placed f p q r e h = rw (← e) h
 
 pub long-placed : (f : List ℕ) (p q r : ℕ) → p ≡ q → r ≡ long f p → r ≡ long f q
 long-placed f p q r e h = rw (← e) h
+
+-- the marks of a statement: by the word w that was read
+module _ (f : List ℕ) (i w : ℕ) (marks : w ≡ stmtWord f i 2) where
+  pub dead-is : eqb (w % 2) 1 ≡ marked f i 1
+  unfolding marked
+  dead-is = let d : w / 1 ≡ w = omega arith in rw (← marks, d)
+
+  pub pushed-is : eqb (w / 4 % 2) 1 ≡ marked f i 4
+  unfolding marked
+  pushed-is = rw marks
 
 -- the items of a statement: by the kind k that was read, and the field n
 module _ (f : List ℕ) (i k n : ℕ) (kind : k ≡ stmtKind f i) where

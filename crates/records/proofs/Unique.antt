@@ -1,10 +1,12 @@
 -- Each contract of this crate but that of Edition::first is an equation for the answer, so no second answer meets it.
 use mathlib.Core.Path.{_≡_, sym, _∙_}
+use mathlib.Core.Bool.{Bool}
 use mathlib.Core.List.{List}
 use Prim.Native.Nat.{ℕ}
 use Rattle.definition.specs.Contents.{contents, text, offset, size, argAt, blockWord, phiWord, inputAt, stmtWord, itemWord, exprWord, nameWord}
 use Rattle.definition.specs.Contents.{blockLong, stmtLong, exprLong, nameLong}
 use Rattle.definition.specs.Owners.{stmtKind, stmtField, exprItems, valueItems, items, blockPhis, blockStmts, phiInputs}
+use Rattle.definition.specs.Read.{marked}
 use Rattle.records.specs.declared.edition.Edition.{Edition}
 use Rattle.records.specs.Editions.{editionOf, wordsAt, limitAt}
 
@@ -87,3 +89,10 @@ module _ (f : List ℕ) (i r s : ℕ) where
 
   pub phi-inputs : r ≡ phiInputs f i → s ≡ phiInputs f i → r ≡ s
   phi-inputs p q = p ∙ sym q
+
+module _ (f : List ℕ) (i : ℕ) (r s : Bool) where
+  pub is-dead : r ≡ marked f i 1 → s ≡ marked f i 1 → r ≡ s
+  is-dead p q = p ∙ sym q
+
+  pub is-pushed : r ≡ marked f i 4 → s ≡ marked f i 4 → r ≡ s
+  is-pushed p q = p ∙ sym q

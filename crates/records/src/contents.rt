@@ -2,7 +2,7 @@
 use words::long_at;
 use words::word_at;
 ghost use mathlib.Core.Path.{_≡_};
-ghost use Prim.Native.Nat.{_≤_, _<_};
+ghost use Prim.Native.Nat.{_≤_};
 ghost use Rattle.definition.specs.Words.{word, long};
 ghost use Rattle.definition.specs.Contents.{offset, size, place, argAt, blockWord, phiWord, inputAt, stmtWord, itemWord, exprWord, nameWord};
 ghost use Rattle.definition.specs.Contents.{blockLong, stmtLong, exprLong, nameLong};

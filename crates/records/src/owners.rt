@@ -1,10 +1,11 @@
-// The kinds of statements and the tags of expressions; a statement's kind and fields, and how many list items it owns.
+// The kinds of statements and the tags of expressions; a statement's kind, marks and fields, and how many list items it owns.
 use crate::contents::block_word;
 use crate::contents::phi_word;
 use crate::contents::stmt_word;
 ghost use mathlib.Core.Path.{_≡_};
 ghost use Prim.Native.Nat.{_<_};
 ghost use Rattle.definition.specs.Owners.{stmtKind, stmtField, exprItems, valueItems, items, blockPhis, blockStmts, phiInputs};
+ghost use Rattle.definition.specs.Read.{marked};
 
 // The kinds of statements.
 pub const ASSIGN: u32 = 1;
@@ -38,6 +39,20 @@ pub fn stmt_kind(f: &[u8], i: u32) -> u32
     ensures { λ r. ⌜ r ≡ stmtKind (now (f .entry)) i ⌝ }
 {
     stmt_word(f, i, 3)
+}
+
+// Whether statement i is dead.
+pub fn is_dead(f: &[u8], i: u32) -> bool
+    ensures { λ r. ⌜ r ≡ marked (now (f .entry)) i 1 ⌝ }
+{
+    stmt_word(f, i, 2) % 2 == 1
+}
+
+// Whether statement i is marked as a push.
+pub fn is_pushed(f: &[u8], i: u32) -> bool
+    ensures { λ r. ⌜ r ≡ marked (now (f .entry)) i 4 ⌝ }
+{
+    stmt_word(f, i, 2) / 4 % 2 == 1
 }
 
 // Field k of a statement, behind address, marks and kind.

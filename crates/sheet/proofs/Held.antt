@@ -24,7 +24,7 @@ abbrev no : Token
 no = tok 0 []
 
 -- within what is padded, the numbers are as they were
-padded-at : (n : ℕ) (l : List ℕ) (i : ℕ) → i < length l → numberAt (padded n l) i ≡ getD l i 0
+pub padded-at : (n : ℕ) (l : List ℕ) (i : ℕ) → i < length l → numberAt (padded n l) i ≡ getD l i 0
 unfolding numberAt padded
 padded-at n l i h = List·getD-append l (replicate (n - length l) 0) 0 i h
 

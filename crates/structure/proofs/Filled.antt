@@ -3,7 +3,7 @@ use mathlib.Core.Path.{_≡_, refl, sym, ap}
 use mathlib.Core.List.{List, [], _∷_}
 use Prim.Native.Nat.{ℕ, zero, suc, _+_, _*_, _-_, _/_, _≤_, _<_}
 use native.Mathlib.Omega.{arith}
-use lib.ListN.{length, getD, replicate, length-append, List·getD-append}
+use lib.ListN.{length, getD, replicate, length-append}
 use Rattle.definition.specs.Lists.{gather}
 use Rattle.definition.specs.Tokens.{Token, Line, textOf}
 use Rattle.definition.specs.Passes.{conds, closer}
@@ -12,18 +12,13 @@ use Rattle.definition.proofs.ListLaws.{Each, end, _▸_, each-append}
 use Rattle.definition.proofs.Plain.{Plain}
 use Rattle.room.proofs.Proper.{Kind8, Proper}
 use Rattle.room.proofs.Words.{words-length, rows-length}
-use Rattle.sheet.specs.Buffers.{numberAt, startAt, endAt, firstOf, lastOf}
+use Rattle.sheet.specs.Buffers.{startAt, endAt, firstOf, lastOf}
 use Rattle.sheet.proofs.Reading.{start-first, start-later}
-use Rattle.sheet.proofs.Held.{held}
+use Rattle.sheet.proofs.Held.{held, padded-at}
 use Rattle.clips.specs.Clip.{Rises}
 use Rattle.outline.specs.Rows.{lineAt}
 use Rattle.finish.specs.Finishing.{countOf}
 use Rattle.structure.specs.Lowered.{Given}
-
--- within what is padded, the numbers are as they were
-padded-at : (n : ℕ) (l : List ℕ) (i : ℕ) → i < length l → numberAt (padded n l) i ≡ getD l i 0
-unfolding numberAt padded
-padded-at n l i h = List·getD-append l (replicate (n - length l) 0) 0 i h
 
 -- ---- tokens
 words-rise : (n : ℕ) (ts : List Token) → Each Kind8 ts → (j : ℕ) → suc j < length ts → getD (tokenWords n ts) j 0 / 8 ≤ getD (tokenWords n ts) (suc j) 0 / 8

@@ -54,42 +54,6 @@ module _ (f : List ℕ) (a n i : ℕ) (so : nameIndex f a ≡ indexFrom f a i (n
       let k : n - i ≡ 0 = omega arith in
       sym (ap found (so ∙ ap (indexFrom f a i) k))
 
--- ---- what the index means, and all that another search has to show
-from-first : (f : List ℕ) (a i n k : ℕ) → k < n → nameLong f (i + k) 0 ≡ a → ((j : ℕ) → j < k → nameLong f (i + j) 0 ≡ a → ⊥)
-    → indexFrom f a i n ≡ some (i + k)
-from-first f a i zero k h e before = absurd (omega arith)
-from-first f a i (suc n) zero h e before =
-    let z : i + 0 ≡ i = omega arith in
-    from-here f a i n (rw z at e) ∙ ap some (sym z)
-from-first f a i (suc n) (suc k) h e before =
-    let z : i + 0 ≡ i = omega arith in
-    let move : (j : ℕ) → i + 1 + j ≡ i + suc j = λ j. omega arith in
-    from-next f a i n (λ q. before 0 (omega arith) (rw z q))
-    ∙ from-first f a (i + 1) n k (omega arith) (rw (move k) e) (λ j g q. before (suc j) (omega arith) (rw (move j) at q))
-    ∙ ap some (move k)
-
-from-absent : (f : List ℕ) (a i n : ℕ) → ((j : ℕ) → j < n → nameLong f (i + j) 0 ≡ a → ⊥) → indexFrom f a i n ≡ none
-unfolding indexFrom
-from-absent f a i zero absent = refl
-from-absent f a i (suc n) absent =
-    let z : i + 0 ≡ i = omega arith in
-    let move : (j : ℕ) → i + 1 + j ≡ i + suc j = λ j. omega arith in
-    from-next f a i n (λ q. absent 0 (omega arith) (rw z q))
-    ∙ from-absent f a (i + 1) n (λ j g q. absent (suc j) (omega arith) (rw (move j) at q))
-
-pub index-first : (f : List ℕ) (a k : ℕ) → k < size f names → nameLong f k 0 ≡ a → ((j : ℕ) → j < k → nameLong f j 0 ≡ a → ⊥)
-    → nameIndex f a ≡ some k
-unfolding nameIndex
-index-first f a k h e before =
-    let z : (j : ℕ) → 0 + j ≡ j = λ j. omega arith in
-    from-first f a 0 (size f names) k h (rw (z k) e) (λ j g q. before j g (rw (z j) at q)) ∙ ap some (z k)
-
-pub index-absent : (f : List ℕ) (a : ℕ) → ((j : ℕ) → j < size f names → nameLong f j 0 ≡ a → ⊥) → nameIndex f a ≡ none
-unfolding nameIndex
-index-absent f a absent =
-    let z : (j : ℕ) → 0 + j ≡ j = λ j. omega arith in
-    from-absent f a 0 (size f names) (λ j g q. absent j g (rw (z j) at q))
-
 -- ---- the index is the definition's name
 textAt-from : (E : Edition) (f : List ℕ) (a i n : ℕ) → nameFor (map (nameAt E f) (range i n)) a ≡ textOf f (text E) (indexFrom f a i n)
 unfolding nameFor nameAt range indexFrom textOf nameText textAt
@@ -111,10 +75,6 @@ name-is E f a = textAt-from E f a 0 (size f names)
 pub text-is : (E : Edition) (f : List ℕ) (start n : ℕ) → part f (offset f (text E) + start) n ≡ textAt E f start n
 unfolding textAt
 text-is E f start n = refl
-
-pub name-text-is : (E : Edition) (f : List ℕ) (i : ℕ) → nameText f (text E) i ≡ nameAt E f i .text
-unfolding nameText nameAt textAt
-name-text-is E f i = refl
 
 -- so `is_global` and `global_name` together are `globalName`
 pub global-is : (E : Edition) (f : List ℕ) (c n : ℕ)

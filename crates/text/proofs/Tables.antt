@@ -1,11 +1,11 @@
 -- The tables of register names: one test that antt computes over all of them, and the rule at each register from it.
-use mathlib.Core.Path.{_≡_, refl, sym, ap, ap₂, _∙_}
-use mathlib.Core.Bool.{Bool, true, false, cond, _&&_}
-use mathlib.Core.List.{List, [], _∷_}
-use Prim.Native.Nat.{ℕ, zero, suc, _*_, _≤_, _<_}
+use mathlib.Core.Path.{_≡_, refl, sym, _∙_}
+use mathlib.Core.Bool.{true, cond, _&&_}
+use mathlib.Core.List.{List, []}
+use Prim.Native.Nat.{ℕ, _*_, _≤_, _<_}
 use native.Mathlib.Decide.{decLt, ℕ-discrete}
 use native.Mathlib.Omega.{arith}
-use borrow.Author.Tests.{lt-ltb, le-ltb, eq-eqb, ne-eqb, eqb-true}
+use borrow.Author.Tests.{lt-ltb, le-ltb, eq-eqb, ne-eqb}
 use lib.Dec.{eqb, ltb}
 use lib.ListN.{length, getD, drop-of-length-le, List·getD-eq-default}
 use lib.Seq.{take-nil}
@@ -13,30 +13,8 @@ use Rattle.definition.specs.Texts.{txt, same}
 use Rattle.definition.specs.Lists.{allBelow}
 use Rattle.definition.specs.Words.{part}
 use Rattle.definition.specs.Registers.{NAMES64, NAMES32, regName}
-
-and-true : (a b : Bool) → (a && b) ≡ true → (a ≡ true) × (b ≡ true)
-and-true true b h = (refl, h)
-and-true false b h = let z : _≡_ {A = ℕ} 0 1 = cc in absurd (omega arith)
-
-same-is : (s t : List ℕ) → same s t ≡ true → s ≡ t
-unfolding same
-same-is [] [] h = refl
-same-is [] (b ∷ t) h = let z : _≡_ {A = ℕ} 0 1 = cc in absurd (omega arith)
-same-is (a ∷ s) [] h = let z : _≡_ {A = ℕ} 0 1 = cc in absurd (omega arith)
-same-is (a ∷ s) (b ∷ t) h = let k = and-true (eqb a b) (same s t) h in ap₂ _∷_ (eqb-true a b (k .0)) (same-is s t (k .1))
-
--- what a test that holds below n says at an index
-below-at : (n : ℕ) (p : ℕ → Bool) → allBelow n p ≡ true → (i : ℕ) → i < n → p i ≡ true
-unfolding allBelow
-below-at zero p h i k = absurd (omega arith)
-below-at (suc n) p h i k = go (decLt i n) (below-at n p (both .0) i)
-  where
-    both : (allBelow n p ≡ true) × (p n ≡ true)
-    both = and-true (allBelow n p) (p n) h
-
-    go : Dec (i < n) → (i < n → p i ≡ true) → p i ≡ true
-    go (yes q) ih = ih q
-    go (no q) ih = let e : i ≡ n = omega arith in ap p e ∙ both .1
+use Rattle.definition.proofs.TextLaws.{same-eq}
+use Rattle.definition.proofs.LoweredRead.{below-at}
 
 abbrev bytes64 : List ℕ
 bytes64 = txt "raxrcxrdxrbxrsprbprsirdir8 r9 r10r11r12r13r14r15"
@@ -66,14 +44,14 @@ name64 : (v : ℕ) → part bytes64 (3 * v) (wide v) ≡ getD NAMES64 v []
 name64 v = go (decLt v 16)
   where
     go : Dec (v < 16) → part bytes64 (3 * v) (wide v) ≡ getD NAMES64 v []
-    go (yes h) = same-is _ _ (rule64 v h)
+    go (yes h) = same-eq _ _ (rule64 v h)
     go (no h) = past v (omega arith)
 
 -- ---- the returns of `name`
 module _ (bits v : ℕ) where
   pub name-32 : bits ≡ 32 → v < 8 → part bytes32 (3 * v) 3 ≡ regName bits v
   unfolding regName
-  name-32 e h = rw (eq-eqb bits 32 e, lt-ltb v 8 h) (same-is _ _ (rule32 v h))
+  name-32 e h = rw (eq-eqb bits 32 e, lt-ltb v 8 h) (same-eq _ _ (rule32 v h))
 
   -- the 64-bit name, where the test for a 32-bit one failed
   by-64 : (n : ℕ) → ((bits ≡ 32) → 8 ≤ v) → n ≡ wide v → part bytes64 (3 * v) n ≡ regName bits v

@@ -8,10 +8,11 @@ use native.Mathlib.Decide.{ℕ-discrete, decLt}
 use native.Mathlib.Nat.{mod-lt}
 use native.Mathlib.Omega.{arith}
 use lib.Dec.{eqb, ltb}
-use lib.ListN.{length, set, replicate, getD-replicate, length-set, length-replicate, List·getD-eq-default}
+use lib.ListN.{length, set, replicate, length-set}
 use borrow.Author.Tests.{eq-eqb, ne-eqb, lt-ltb, le-ltb, ltb-true}
 use Rattle.values.specs.Tables.{at, firstOf, numberOf, numbersOf}
 use Rattle.values.specs.Chains.{steps, walked, Chained, Numbered}
+use Rattle.values.proofs.Ranges.{zeros-at}
 use Rattle.values.proofs.Tables.{first-is, first-le, at-set-same, at-set-other, same-at, number-at, numbers-length}
 
 -- ---- walks
@@ -84,14 +85,6 @@ module _ (ks next : List ℕ) (k : ℕ) where
   walk-below i y x h = steps-below i y x x h
 
 -- ---- chains
-zeros-at : (h b : ℕ) → at (replicate h 0) b ≡ 0
-unfolding at
-zeros-at h b = go (decLt b h)
-  where
-    go : Dec (b < h) → at (replicate h 0) b ≡ 0
-    go (yes l) = getD-replicate h b 0 0 l
-    go (no l) = List·getD-eq-default (replicate h 0) 0 (omega (arith, length-replicate {A = ℕ} h 0))
-
 pub chain-start : (ks next heads : List ℕ) → heads ≡ replicate (length heads) 0 → Chained ks heads next 0
 chain-start ks next heads e = record {
   finds = λ k d. sym (walk-none ks next k (at heads (k % length heads)) (zero k)) ∙ sym (rw (le-ltb (firstOf ks k) 0 (omega arith)));
@@ -214,10 +207,6 @@ filled-on g t u i x before here is put j h = ap (λ (l : List ℕ). at l j) put 
 pub numbers-done : (ks t : List ℕ) (i : ℕ) → length t ≡ length ks → length ks ≤ i → ((j : ℕ) → j < i → at t j ≡ numberOf ks (at ks j)) → t ≡ numbersOf ks
 numbers-done ks t i len end all =
     same-at t (numbersOf ks) (len ∙ sym (numbers-length ks)) (λ j h. all j (omega arith) ∙ sym (number-at ks j (omega arith)))
-
-pub clear-done : (t u : List ℕ) (i : ℕ) → length t ≡ length u → length t ≤ i → ((j : ℕ) → j < i → at t j ≡ 0) → t ≡ replicate (length u) 0
-clear-done t u i len end all =
-    same-at t (replicate (length u) 0) (len ∙ sym (length-replicate (length u) 0)) (λ j h. all j (omega arith) ∙ sym (zeros-at (length u) j))
 
 pub cleared : (t u : List ℕ) → u ≡ replicate (length t) 0 → length u ≡ length t → u ≡ replicate (length u) 0
 cleared t u e h = e ∙ ap (λ (n : ℕ). replicate n 0) (sym h)

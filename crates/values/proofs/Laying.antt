@@ -2,7 +2,7 @@
 use mathlib.Core.Path.{_≡_, refl, sym, ap, _∙_}
 use mathlib.Core.Bool.{true}
 use mathlib.Core.List.{List, [], _∷_, _++_, map}
-use Prim.Native.Nat.{ℕ, zero, suc, _+_, _-_, _≤_, _<_}
+use Prim.Native.Nat.{ℕ, suc, _+_, _-_, _≤_, _<_}
 use native.Mathlib.Decide.{decLt}
 use native.Mathlib.Omega.{arith}
 use lib.ListN.{length, getD, drop, set, replicate, length-replicate, getD-replicate}
@@ -18,6 +18,7 @@ use Rattle.definition.specs.Shape.{owned}
 use Rattle.definition.specs.Listing.{padded}
 use Rattle.records.proofs.Items.{size-small}
 use Rattle.records.proofs.Below.{sum-start, sum-turn, sum-le}
+use Rattle.records.proofs.Padded.{drop-zeros}
 use Rattle.values.specs.declared.places.Places.{Places}
 use Rattle.values.specs.Keys.{inputKey, itemKey, inputKeys, itemKeys, keysOf, placesOf, keyed}
 use Rattle.values.specs.Tables.{at}
@@ -108,11 +109,6 @@ unfolding inputKeys
 phi-start f i n first p t e h = rw (← e) (lay-start (inputKey f i) n first p (phiInputs f i) t h)
 
 -- ---- all the lists, laid into zeros
-drop-zeros : (k n : ℕ) → _≡_ {A = List ℕ} (drop k (replicate n 0)) (replicate (n - k) 0)
-drop-zeros zero n = let e : n - 0 ≡ n = omega arith in rw e
-drop-zeros (suc k) zero = let e : 0 - suc k ≡ 0 = omega arith in rw e
-drop-zeros (suc k) (suc n) = let e : suc n - suc k ≡ n - k = omega arith in rw e (drop-zeros k n)
-
 laid-padded : (n : ℕ) (xs : List ℕ) → length xs ≤ n → laid (replicate n 0) 0 xs ≡ padded n xs
 unfolding laid padded
 laid-padded n xs h =

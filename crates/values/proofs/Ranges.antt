@@ -1,12 +1,13 @@
--- Lists over a range of numbers: what stands at a place, how long they are, and one number more, at the end. A range goes on where its first part ends.
+-- Lists over a range of numbers: what stands at a place, how long they are, and one number more, at the end.
 use mathlib.Core.Path.{_≡_, refl, sym, ap, _∙_}
-use mathlib.Core.List.{List, [], _∷_, _++_, map, append-nil, append-assoc}
+use mathlib.Core.List.{List, _++_, map, append-nil}
 use Prim.Native.Nat.{ℕ, zero, suc, _+_, _-_, _<_}
 use native.Mathlib.Omega.{arith}
-use lib.ListN.{length, length-append, length-map, List·getD-append}
+use lib.ListN.{length, replicate, length-append, length-map, List·getD-append}
 use lib.Seq.{getD-append-add}
 use Rattle.definition.specs.Lists.{gather, range, sumBelow}
 use Rattle.records.proofs.Editions.{length-range}
+use Rattle.records.proofs.Ranges.{range-parts, gather-append}
 use Rattle.values.specs.Tables.{at}
 
 -- ---- one list behind another
@@ -18,17 +19,11 @@ pub at-right : (xs ys : List ℕ) (n i : ℕ) → length xs ≡ n → at (xs ++ 
 unfolding at
 at-right xs ys n i e = rw (← e) (getD-append-add xs ys i 0)
 
--- ---- a range in two parts
-pub range-parts : (a n m : ℕ) → range a (n + m) ≡ range a n ++ range (a + n) m
-unfolding range
-range-parts a zero m =
-    let p : 0 + m ≡ m = omega arith in
-    let q : a + 0 ≡ a = omega arith in
-    rw (p, q)
-range-parts a (suc n) m =
-    let p : suc n + m ≡ suc (n + m) = omega arith in
-    let q : a + suc n ≡ a + 1 + n = omega arith in
-    rw (p, q, range-parts (a + 1) n m)
+pub zeros-at : (n i : ℕ) → at (replicate n 0) i ≡ 0
+unfolding at
+zeros-at zero i = refl
+zeros-at (suc n) zero = refl
+zeros-at (suc n) (suc i) = zeros-at n i
 
 -- ---- a number at each
 module _ (g : ℕ → ℕ) where
@@ -49,15 +44,10 @@ module _ (g : ℕ → ℕ) where
 
 -- ---- a list at each
 module _ (g : ℕ → List ℕ) where
-  gather-append : (xs ys : List ℕ) → gather g (xs ++ ys) ≡ gather g xs ++ gather g ys
-  unfolding gather
-  gather-append [] ys = refl
-  gather-append (x ∷ xs) ys = rw (gather-append xs ys) (sym (append-assoc (g x) (gather g xs) (gather g ys)))
-
   pub gather-parts : (n m : ℕ) → gather g (range 0 (n + m)) ≡ gather g (range 0 n) ++ gather g (range n m)
   gather-parts n m =
       let p : 0 + n ≡ n = omega arith in
-      ap (gather g) (range-parts 0 n m ∙ ap (λ (k : ℕ). range 0 n ++ range k m) p) ∙ gather-append (range 0 n) (range n m)
+      ap (gather g) (range-parts 0 n m ∙ ap (λ (k : ℕ). range 0 n ++ range k m) p) ∙ gather-append g (range 0 n) (range n m)
 
   pub gather-more : (n : ℕ) → gather g (range 0 (n + 1)) ≡ gather g (range 0 n) ++ g n
   unfolding gather range

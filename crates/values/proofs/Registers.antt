@@ -1,6 +1,6 @@
 -- Where every register that the file names is one of the sixteen: each that a key is made of, by its place.
-use mathlib.Core.Path.{_≡_, refl, sym, _∙_}
-use mathlib.Core.Bool.{Bool, true, _&&_, false≢true}
+use mathlib.Core.Path.{_≡_, sym, _∙_}
+use mathlib.Core.Bool.{true, _&&_}
 use mathlib.Core.List.{List, map}
 use Prim.Native.Nat.{ℕ, _+_, _<_}
 use native.Mathlib.Omega.{arith}
@@ -11,15 +11,11 @@ use Rattle.definition.specs.Contents.{size, argAt, phiWord, itemWord, exprWord}
 use Rattle.definition.specs.Owners.{stmtKind, stmtField, exprItems, valueItems, firstItem}
 use Rattle.definition.specs.Values.{value}
 use Rattle.definition.specs.Meaning.{isRegister, argRegs, phiValue, assigned, callReturns, itemValues, strict, loose, useRegister, registers}
-use Rattle.definition.proofs.Bools.{is-true}
 use Rattle.records.proofs.Also.{and-both}
-use Rattle.records.proofs.Below.{all-fail}
+use Rattle.definition.proofs.LoweredRead.{below-at}
 use Rattle.meaning.specs.Defined.{named}
 use Rattle.meaning.proofs.Ranges.{all-append, all-one, all-map}
 use Rattle.meaning.proofs.RegistersNamed.{argNamed, phiNamed, assignNamed, looseNamed, args-named, phis-named, assigns-named, loose-named}
-
-below-at : (n : ℕ) (p : ℕ → Bool) → allBelow n p ≡ true → (i : ℕ) → i < n → p i ≡ true
-below-at n p e i h = is-true (p i) (λ q. absurd (false≢true (all-fail p {n = n} {m = n} refl refl h (rw q) ∙ e)))
 
 small : (r : ℕ) → isRegister r ≡ true → r < 16
 small r e = omega (arith, leb-true r 15 e)

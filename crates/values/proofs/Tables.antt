@@ -11,7 +11,8 @@ use lib.ListN.{length, getD, set, replicate, length-map, length-set, length-repl
 use lib.Seq.{ext-getD, getD-set-same, getD-set-other}
 use borrow.Author.Tests.{eqb-true, eqb-false, eq-eqb, ne-eqb, not-true}
 use Rattle.definition.specs.Values.{Value, value, eqv}
-use Rattle.definition.proofs.Bools.{by-test, both-true, is-false}
+use Rattle.definition.proofs.Bools.{by-test, is-false, eqb-swap}
+use Rattle.definition.proofs.Equal.{eqv-true}
 use Rattle.values.specs.Keys.{keyOf, valueOf, keyed}
 use Rattle.values.specs.Tables.{at, firstOf, numberOf, numbersOf, entry, tabled, numbered, table}
 use Rattle.values.proofs.Ranges.{map-length, at-below}
@@ -38,11 +39,9 @@ pub eqv-refl : (v : Value) → eqv v v ≡ true
 unfolding eqv
 eqv-refl v = rw (eq-eqb (v .reg) (v .reg) refl, eq-eqb (v .ver) (v .ver) refl)
 
-pub eqv-true : (v w : Value) → eqv v w ≡ true → v ≡ w
+pub eqv-swap : (v w : Value) → eqv v w ≡ eqv w v
 unfolding eqv
-eqv-true v w e =
-    let b = both-true (eqb (v .reg) (w .reg)) (eqb (v .ver) (w .ver)) e in
-    ap₂ value (eqb-true (v .reg) (w .reg) (b .0)) (eqb-true (v .ver) (w .ver) (b .1))
+eqv-swap v w = ap₂ (λ (a b : Bool). a && b) (eqb-swap (v .reg) (w .reg)) (eqb-swap (v .ver) (w .ver))
 
 pub eqv-keys : (a b : ℕ) → (a ≡ 0 → ⊥) → (b ≡ 0 → ⊥) → eqv (valueOf a) (valueOf b) ≡ eqb a b
 eqv-keys a b h k = go (ℕ-discrete a b)
@@ -138,7 +137,7 @@ pub tabled-length : (ks : List ℕ) (g : Value → ℕ) → length (tabled ks g)
 unfolding tabled
 tabled-length ks g = map-length (entry ks g) 0 (length ks)
 
-tabled-at : (ks : List ℕ) (g : Value → ℕ) (i : ℕ) → i < length ks → at (tabled ks g) i ≡ entry ks g i
+pub tabled-at : (ks : List ℕ) (g : Value → ℕ) (i : ℕ) → i < length ks → at (tabled ks g) i ≡ entry ks g i
 unfolding tabled
 tabled-at ks g i h = at-below (entry ks g) (length ks) i h
 
@@ -258,14 +257,13 @@ module _ (f : List ℕ) (n : ℕ) where
   unfolding table
   table-zero = tab-zero (keyed f n)
 
+  pub zeros-are : length (keyed f n) ≡ n → replicate n 0 ≡ table f n (λ v. 0)
+  zeros-are long = sym (table-zero ∙ ap (λ (k : ℕ). replicate k 0) long)
+
   module _ (p : ℕ) (here : p < length (keyed f n)) where
     pub numbered-at : at (numbered f n) p ≡ numberOf (keyed f n) (at (keyed f n) p)
     unfolding numbered
     numbered-at = number-at (keyed f n) p here
-
-    pub numbered-none : at (keyed f n) p ≡ 0 → at (numbered f n) p ≡ 0
-    unfolding numbered
-    numbered-none = number-none (keyed f n) p here
 
     pub numbered-below : at (numbered f n) p < length (keyed f n)
     unfolding numbered

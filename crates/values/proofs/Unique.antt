@@ -2,7 +2,7 @@
 use mathlib.Core.Path.{_≡_, sym, _∙_}
 use mathlib.Core.List.{List}
 use Prim.Native.Nat.{ℕ}
-use lib.ListN.{length, set, replicate}
+use lib.ListN.{set}
 use Rattle.values.specs.declared.places.Places.{Places}
 use Rattle.values.specs.Keys.{placesOf, keyed}
 use Rattle.values.specs.Tables.{at}
@@ -20,9 +20,6 @@ put-place l i x t u p q = p ∙ sym q
 
 pub keys : (f : List ℕ) (n : ℕ) (t u : List ℕ) → t ≡ keyed f n → u ≡ keyed f n → t ≡ u
 keys f n t u p q = p ∙ sym q
-
-pub clear : (l t u : List ℕ) → t ≡ replicate (length l) 0 → u ≡ replicate (length l) 0 → t ≡ u
-clear l t u p q = p ∙ sym q
 
 pub numbers : (ks ns ms hs gs xs ys : List ℕ) (h n : ℕ) → Emptied ks ns hs xs h n → Emptied ks ms gs ys h n → (ns ≡ ms) × (hs ≡ gs) × (xs ≡ ys)
 numbers ks ns ms hs gs xs ys h n p q =

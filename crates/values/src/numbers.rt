@@ -2,22 +2,12 @@
 use crate::read::at_u32;
 use crate::read::at_u64;
 use crate::read::put_u32;
+use zeros::clear_words;
 ghost use mathlib.Core.Path.{_≡_};
 ghost use Prim.Native.Nat.{_≤_, _<_};
 ghost use lib.ListN.{length, replicate};
 ghost use Rattle.values.specs.Tables.{numbersOf};
 ghost use Rattle.values.specs.Chains.{walked, Chained, Numbered, Emptied};
-
-// All zeros, whatever stood there.
-pub fn clear(table: &mut [u32])
-    ensures { λ _. ⌜ now (table .exit) ≡ replicate (length (now (table .entry))) 0 ⌝ }
-{
-    let mut i = 0;
-    while i < table.len() {
-        table[i] = 0;
-        i += 1;
-    }
-}
 
 // Along a chain from place top - 1 on: where key k stands, and 1 more, or 0. A chain only leads down.
 fn walk(keys: &[u64], next: &[u32], top: u32, k: u64) -> u32
@@ -76,8 +66,8 @@ pub fn numbers(numbers: &mut [u32], heads: &mut [u32], next: &mut [u32], keys: &
     requires { ⌜ (length (now numbers) ≡ length (now keys)) × (length (now keys) ≤ length (now next)) × (length (now keys) < 4294967296) × (0 < length (now heads)) ⌝ }
     ensures { λ _. ⌜ Emptied (now (keys .entry)) (now (numbers .exit)) (now (heads .exit)) (now (next .exit)) (length (now (heads .entry))) (length (now (next .entry))) ⌝ }
 {
-    clear(heads);
+    clear_words(heads);
     number_all(numbers, heads, next, keys);
-    clear(heads);
-    clear(next);
+    clear_words(heads);
+    clear_words(next);
 }

@@ -6,7 +6,7 @@ use native.Mathlib.Nat.{lt-suc-self}
 use native.Mathlib.Numerals.{add-one}
 use mathlib.Core.Bool.{Bool}
 use lib.WfN.{Nat·lt-wfRel}
-use lib.Dec.{ltb, lit<}
+use lib.Dec.{lit<}
 use native.Mathlib.Omega.{arith}
 use mathlib.Core.List.{[], _∷_, List, map}
 use lib.ListN.{length, set, getD, length-set}

@@ -21,14 +21,14 @@ returns c = λ E set so. set-assign _ _ _ _ (c .before .before .before .before .
 returns-2 : tie.Need-returns-2
 returns-2 c = λ E set so. set-other _ _ _ _ (c .before .before .stmt-kind .ensures) E set so (c .before .if1 .left) (c .if2 .taken)
 
-stmt-word-requires : tie.Need-stmt-word-requires
-stmt-word-requires c κs = search needs
+is-dead-requires : tie.Need-is-dead-requires
+is-dead-requires c κs = search needs
 
 returns-3 : tie.Need-returns-3
-returns-3 c = λ E set so. set-dead _ _ _ _ (c .before .before .before .before .stmt-kind .ensures) E set so _ (c .before .before .if2 .left) (c .before .stmt-word .ensures) (c .if3 .taken)
+returns-3 c = λ E set so. set-dead _ _ _ _ (c .before .before .before .before .stmt-kind .ensures) E set so _ (c .before .before .if2 .left) (c .before .is-dead .ensures) (c .if3 .taken)
 
 returns-4 : tie.Need-returns-4
-returns-4 c = λ E set so. set-cleared _ _ _ _ (c .before .before .before .before .stmt-kind .ensures) E set so _ (c .before .before .if2 .left) (c .before .stmt-word .ensures) (c .if3 .left)
+returns-4 c = λ E set so. set-cleared _ _ _ _ (c .before .before .before .before .stmt-kind .ensures) E set so _ (c .before .before .if2 .left) (c .before .is-dead .ensures) (c .if3 .left)
 
 pub set-behind-spec : {M : Type 1} → statement M
 set-behind-spec =
@@ -40,6 +40,6 @@ set-behind-spec =
     greater-requires
     returns
     returns-2
-    stmt-word-requires
+    is-dead-requires
     returns-3
     returns-4)

@@ -1,5 +1,6 @@
+use Rattle.room.proofs.Laws.{piece-as}
 use borrow.Author.Needs.{needs}
-use Rattle.calls.proofs.Naming.{piece-as, outside-unnamed, outside-label, outside-named}
+use Rattle.calls.proofs.Naming.{outside-unnamed, outside-label, outside-named}
 use Rattle.calls.proofs.targets.put_outside.Statement.{statement}
 use Rattle.calls.proofs.targets.put_outside.Tie as tie
 

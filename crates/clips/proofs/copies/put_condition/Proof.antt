@@ -1,4 +1,4 @@
-use Rattle.clips.proofs.Emits.{pieces-are}
+use Rattle.room.proofs.Laws.{pieces-are}
 use borrow.Author.Needs.{needs}
 use Rattle.clips.proofs.copies.put_condition.Statement.{statement}
 use Rattle.clips.proofs.copies.put_condition.Tie as tie

@@ -1,7 +1,8 @@
 use Rattle.names.proofs.Reading.{uses-run}
-use Rattle.names.proofs.Ticking.{tick-none, tick-some}
+use Rattle.names.proofs.Ticking.{tick-run, tick-none, tick-some}
 use Rattle.names.specs.Walk.{ticked}
 use Rattle.records.proofs.Items.{size-small}
+use Rattle.reads.proofs.Visits.{exprs-low}
 use Rattle.definition.specs.Edition.{statements}
 use mathlib.Core.Path.{ap, _∙_}
 use native.Mathlib.Omega.{arith}
@@ -24,14 +25,14 @@ add-at-u32 c = omega (arith, size-small (c .before .before .before .before .befo
 at-u32-requires-2 : tie.Need-at-u32-requires-2
 at-u32-requires-2 c κs = search needs
 
-tick-uses-requires : tie.Need-tick-uses-requires
-tick-uses-requires c κs = c .before .before .before .before .before .before .before .before .before .before .pre .0 .0
+mark-run-requires : tie.Need-mark-run-requires
+mark-run-requires c κs = exprs-low (c .before .before .before .before .before .before .before .before .before .before .args .f .now) (c .before .before .before .before .before .before .before .before .shared-slice-known .given) _ (c .before .before .before .before .before .before .before .before .before .before .pre .0 .0)
 
 same-length : tie.Need-same-length
 same-length c = search needs
 
 returns-2 : tie.Need-returns-2
-returns-2 c = tick-some _ (c .before .before .before .before .before .before .before .before .before .before .before .before .before .args .f .now) _ (c .before .before .before .before .before .before .before .before .before .before .before .before .before .args .i) _ (c .before .before .before .before .before .before .before .passed-over .ensures) _ (c .before .before .before .before .before .before .if1 .left) (c .before .before .tick-uses .ensures ∙ ap (ticked _ _) (uses-run (c .before .before .before .before .before .before .before .before .before .before .before .before .before .args .f .now) (c .before .before .before .before .before .before .before .before .before .before .before .before .before .args .order .now) (c .before .before .before .before .before .before .before .before .before .before .before .before .before .args .starts .now) _ _ (c .before .before .before .before .before .before .before .before .before .before .before .before .before .pre .1) (c .before .before .before .before .before .before .before .before .before .before .before .before .before .args .i) _ _ (c .before .before .before .before .before .before .before .before .before .before .before .before .before .pre .0 .1) (c .before .before .before .before .before .at-u32 .ensures) (c .before .before .before .before .at-u322 .ensures)))
+returns-2 c = tick-some _ (c .before .before .before .before .before .before .before .before .before .before .before .before .before .args .f .now) _ (c .before .before .before .before .before .before .before .before .before .before .before .before .before .args .i) _ (c .before .before .before .before .before .before .before .passed-over .ensures) _ (c .before .before .before .before .before .before .if1 .left) (c .before .before .mark-run .ensures ∙ tick-run _ (c .before .before .before .before .before .before .before .before .before .before .before .before .before .args .f .now) (c .before .before .before .before .before .before .before .before .before .before .before .before .before .args .order .now) _ _ _ _ (c .before .before .before .before .before .before .before .before .before .before .before .before .before .pre .0 .0) ∙ ap (ticked _ _) (uses-run (c .before .before .before .before .before .before .before .before .before .before .before .before .before .args .f .now) (c .before .before .before .before .before .before .before .before .before .before .before .before .before .args .order .now) (c .before .before .before .before .before .before .before .before .before .before .before .before .before .args .starts .now) _ _ (c .before .before .before .before .before .before .before .before .before .before .before .before .before .pre .1) (c .before .before .before .before .before .before .before .before .before .before .before .before .before .args .i) _ _ (c .before .before .before .before .before .before .before .before .before .before .before .before .before .pre .0 .1) (c .before .before .before .before .before .at-u32 .ensures) (c .before .before .before .before .at-u322 .ensures)))
 
 pub tick-stmt-spec : {M : Type 1} → statement M
 tick-stmt-spec =
@@ -42,6 +43,6 @@ tick-stmt-spec =
     at-u32-requires
     add-at-u32
     at-u32-requires-2
-    tick-uses-requires
+    mark-run-requires
     same-length
     returns-2)

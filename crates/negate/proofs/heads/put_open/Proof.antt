@@ -1,5 +1,4 @@
-use Rattle.room.proofs.Laws.{next, more, done, merged}
-use Rattle.clips.proofs.Emits.{pieces-are}
+use Rattle.room.proofs.Laws.{next, more, done, merged, pieces-are}
 use Rattle.definition.specs.Negate.{negate, openTokens}
 use mathlib.Core.Path.{sym, ap, _∙_}
 use borrow.Author.Needs.{needs}

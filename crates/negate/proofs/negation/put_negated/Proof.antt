@@ -1,5 +1,5 @@
 use mathlib.Core.Path.{sym}
-use Rattle.clips.proofs.Emits.{pieces-are}
+use Rattle.room.proofs.Laws.{pieces-are}
 use Rattle.negate.proofs.Marks.{negate-flips, negate-wraps}
 use borrow.Author.Needs.{needs}
 use Rattle.negate.proofs.negation.put_negated.Statement.{statement}

@@ -1,5 +1,6 @@
 use Rattle.plain.proofs.Assigning.{gone-is, restore-is}
-use Rattle.plain.proofs.Lines.{inside, left-out, not-out, line-put, assign-lines}
+use Rattle.lowering.proofs.Lines.{left-out, not-out, line-put}
+use Rattle.plain.proofs.Lines.{inside, assign-lines}
 use Rattle.plain.proofs.Searching.{stmts-low}
 use borrow.Author.Needs.{needs}
 use Rattle.plain.proofs.assign.assign.Statement.{statement}

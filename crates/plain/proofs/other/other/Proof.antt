@@ -1,4 +1,5 @@
-use Rattle.plain.proofs.Lines.{inside, left-out, not-out, line-put, other-lines}
+use Rattle.lowering.proofs.Lines.{left-out, not-out, line-put}
+use Rattle.plain.proofs.Lines.{inside, other-lines}
 use borrow.Author.Needs.{needs}
 use Rattle.plain.proofs.other.other.Statement.{statement}
 use Rattle.plain.proofs.other.other.Tie as tie

@@ -1,4 +1,5 @@
-use Rattle.plain.proofs.Lines.{left-out, not-out, line-put, return-lines}
+use Rattle.lowering.proofs.Lines.{left-out, not-out, line-put}
+use Rattle.plain.proofs.Lines.{return-lines}
 use borrow.Author.Needs.{needs}
 use Rattle.plain.proofs.returns.returns.Statement.{statement}
 use Rattle.plain.proofs.returns.returns.Tie as tie

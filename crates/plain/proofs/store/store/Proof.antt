@@ -1,4 +1,5 @@
-use Rattle.plain.proofs.Lines.{left-out, not-out, line-put, store-lines}
+use Rattle.lowering.proofs.Lines.{left-out, not-out, line-put}
+use Rattle.plain.proofs.Lines.{store-lines}
 use borrow.Author.Needs.{needs}
 use Rattle.plain.proofs.store.store.Statement.{statement}
 use Rattle.plain.proofs.store.store.Tie as tie

@@ -7,17 +7,17 @@ use borrow.Author.Needs.{needs}
 use Rattle.values.proofs.numbers.numbers.Statement.{statement}
 use Rattle.values.proofs.numbers.numbers.Tie as tie
 
-clear-requires : tie.Need-clear-requires
-clear-requires c κs = search needs
+clear-words-requires : tie.Need-clear-words-requires
+clear-words-requires c κs = search needs
 
 number-all-requires : tie.Need-number-all-requires
-number-all-requires c κs = let pre = c .before .before .before .before .before .before .before .before .before .before .before .pre in (cleared (c .before .before .before .before .before .before .before .before .before .before .before .args .heads .now) _ (c .before .before .before .before .before .clear .ensures) (c .before .before .before .before .before .clear .kept .0), (pre .0, pre .1, pre .2, omega (arith, pre .3, c .before .before .before .before .before .clear .kept .0)))
+number-all-requires c κs = let pre = c .before .before .before .before .before .before .before .before .before .before .before .pre in (cleared (c .before .before .before .before .before .before .before .before .before .before .before .args .heads .now) _ (c .before .before .before .before .before .clear-words .ensures) (c .before .before .before .before .before .clear-words .kept .0), (pre .0, pre .1, pre .2, omega (arith, pre .3, c .before .before .before .before .before .clear-words .kept .0)))
 
-clear-requires-2 : tie.Need-clear-requires-2
-clear-requires-2 c κs = search needs
+clear-words-requires-2 : tie.Need-clear-words-requires-2
+clear-words-requires-2 c κs = search needs
 
-clear-requires-3 : tie.Need-clear-requires-3
-clear-requires-3 c κs = search needs
+clear-words-requires-3 : tie.Need-clear-words-requires-3
+clear-words-requires-3 c κs = search needs
 
 same-length : tie.Need-same-length
 same-length c = search needs
@@ -29,16 +29,16 @@ same-length-3 : tie.Need-same-length-3
 same-length-3 c = search needs
 
 returns : tie.Need-returns
-returns c = record { numbers = c .before .before .before .before .before .before .before .before .before .before .before .before .before .before .number-all .ensures; no-heads = c .before .before .before .before .before .before .clear2 .ensures ∙ ap (λ (n : ℕ). replicate n 0) (c .before .before .before .before .before .before .before .before .before .before .before .before .before .before .number-all .kept .1 .0 ∙ c .before .before .before .before .before .before .before .before .before .before .before .before .before .before .before .before .before .before .before .before .clear .kept .0); no-next = c .before .before .clear3 .ensures ∙ ap (λ (n : ℕ). replicate n 0) (c .before .before .before .before .before .before .before .before .before .before .before .before .before .before .number-all .kept .1 .1 .0) }
+returns c = record { numbers = c .before .before .before .before .before .before .before .before .before .before .before .before .before .before .number-all .ensures; no-heads = c .before .before .before .before .before .before .clear-words2 .ensures ∙ ap (λ (n : ℕ). replicate n 0) (c .before .before .before .before .before .before .before .before .before .before .before .before .before .before .number-all .kept .1 .0 ∙ c .before .before .before .before .before .before .before .before .before .before .before .before .before .before .before .before .before .before .before .before .clear-words .kept .0); no-next = c .before .before .clear-words3 .ensures ∙ ap (λ (n : ℕ). replicate n 0) (c .before .before .before .before .before .before .before .before .before .before .before .before .before .before .number-all .kept .1 .1 .0) }
 
 pub numbers-spec : {M : Type 1} → statement M
 numbers-spec =
     tie.close
     (tie.spec
-    clear-requires
+    clear-words-requires
     number-all-requires
-    clear-requires-2
-    clear-requires-3
+    clear-words-requires-2
+    clear-words-requires-3
     same-length
     same-length-2
     same-length-3

@@ -1,7 +1,7 @@
-use Rattle.reads.proofs.Visits.{dead-is}
+use Rattle.records.proofs.Laws.{dead-is}
 use borrow.Author.Needs.{needs}
-use Rattle.reads.proofs.counts.is_dead.Statement.{statement}
-use Rattle.reads.proofs.counts.is_dead.Tie as tie
+use Rattle.records.proofs.owners.is_dead.Statement.{statement}
+use Rattle.records.proofs.owners.is_dead.Tie as tie
 
 stmt-word-requires : tie.Need-stmt-word-requires
 stmt-word-requires c κs = search needs

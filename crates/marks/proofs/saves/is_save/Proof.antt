@@ -1,7 +1,7 @@
 use Rattle.marks.proofs.Saving.{save-other, save-none, save-there}
 use borrow.Author.Needs.{needs}
-use Rattle.plain.proofs.saves.is_save.Statement.{statement}
-use Rattle.plain.proofs.saves.is_save.Tie as tie
+use Rattle.marks.proofs.saves.is_save.Statement.{statement}
+use Rattle.marks.proofs.saves.is_save.Tie as tie
 
 stmt-kind-requires : tie.Need-stmt-kind-requires
 stmt-kind-requires c κs = search needs

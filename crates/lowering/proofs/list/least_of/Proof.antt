@@ -1,6 +1,6 @@
-use Rattle.calling.proofs.Taking.{least-left, least-right}
-use Rattle.calling.proofs.args.least_of.Statement.{statement}
-use Rattle.calling.proofs.args.least_of.Tie as tie
+use Rattle.lowering.proofs.Commas.{least-left, least-right}
+use Rattle.lowering.proofs.list.least_of.Statement.{statement}
+use Rattle.lowering.proofs.list.least_of.Tie as tie
 
 returns : tie.Need-returns
 returns c = least-left _ _ (c .if1 .taken)

@@ -1,7 +1,7 @@
-use Rattle.plain.proofs.Lines.{ends-at}
+use Rattle.lowering.proofs.Lines.{ends-at}
 use borrow.Author.Needs.{needs}
-use Rattle.plain.proofs.parts.end_stmt.Statement.{statement}
-use Rattle.plain.proofs.parts.end_stmt.Tie as tie
+use Rattle.lowering.proofs.line.end_stmt.Statement.{statement}
+use Rattle.lowering.proofs.line.end_stmt.Tie as tie
 
 stmt-long-requires : tie.Need-stmt-long-requires
 stmt-long-requires c κs = search needs

@@ -1,7 +1,7 @@
 use Rattle.marks.proofs.Saving.{saved-past, saved-other, saved-later, saved-is}
 use borrow.Author.Needs.{needs}
-use Rattle.marks.proofs.roots.is_saved.Statement.{statement}
-use Rattle.marks.proofs.roots.is_saved.Tie as tie
+use Rattle.marks.proofs.saves.is_saved.Statement.{statement}
+use Rattle.marks.proofs.saves.is_saved.Tie as tie
 
 size-of-requires : tie.Need-size-of-requires
 size-of-requires c κs = search needs

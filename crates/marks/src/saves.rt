@@ -1,4 +1,4 @@
-// The prologue's saves of callee-saved registers.
+// The prologue's saves of callee-saved registers' entry values to their stack slots.
 use offsets::address::stack_off;
 use records::contents::EXPRESSIONS;
 use records::contents::expr_word;

@@ -1,7 +1,7 @@
-use Rattle.plain.proofs.Searching.{read-live, read-phi}
+use Rattle.reads.proofs.ReadAtAll.{read-live, read-phi}
 use borrow.Author.Needs.{needs}
-use Rattle.plain.proofs.sets.is_read.Statement.{statement}
-use Rattle.plain.proofs.sets.is_read.Tie as tie
+use Rattle.reads.proofs.counts.is_read.Statement.{statement}
+use Rattle.reads.proofs.counts.is_read.Tie as tie
 
 at-u32-requires : tie.Need-at-u32-requires
 at-u32-requires c κs = search needs
