@@ -3,10 +3,11 @@ use mathlib.Core.Path.{_≡_, sym, ap, subst, _∙_}
 use mathlib.Core.List.{List}
 use Prim.Native.Nat.{ℕ, _≤_, _<_}
 use native.Mathlib.Omega.{arith}
-use lib.ListN.{length, replicate, length-replicate}
+use lib.ListN.{length, replicate}
 use Rattle.definition.specs.Edition.{Edition}
 use Rattle.definition.specs.Read.{read}
 use Rattle.definition.specs.Classes.{find, classes}
+use Rattle.zeros.proofs.Clearing.{own-zeros}
 use Rattle.values.specs.Keys.{keyOf, keyed}
 use Rattle.values.specs.Tables.{numberOf, numbered, table}
 use Rattle.values.specs.Chains.{Emptied}
@@ -21,10 +22,6 @@ use Rattle.inline.proofs.Forgetting.{in-place}
 use Rattle.names.specs.Given.{Numbered, EntryRead, NamesAll}
 use Rattle.analyses.specs.Tables.{Unnumbered, Valued, Before, ReadAs, Shared, Named}
 
--- zeros of some length are zeros of their own
-zeros : (l : List ℕ) (n : ℕ) → l ≡ replicate n 0 → l ≡ replicate (length l) 0
-zeros l n p = p ∙ ap (λ (k : ℕ). replicate k 0) (sym (ap length p ∙ length-replicate n 0))
-
 -- ---- numbers of values
 pub chains-fit : (f ks ns heads next after : List ℕ) → Unnumbered f ks ns heads next → length after ≡ length ks
     → (length ns ≡ length after) × (length after ≤ length next) × (length after < 4294967296) × (0 < length heads)
@@ -34,8 +31,8 @@ pub all-valued : (f : List ℕ) (n h k : ℕ) (ks ns heads next : List ℕ) → 
 all-valued f n h k ks ns heads next p e = record {
   keys = p;
   numbers = numbered-from f n ks ns p (e .numbers);
-  no-heads = zeros heads h (e .no-heads);
-  no-next = zeros next k (e .no-next);
+  no-heads = own-zeros heads h (e .no-heads);
+  no-next = own-zeros next k (e .no-next);
 }
 
 -- ---- reads

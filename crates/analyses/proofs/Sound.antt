@@ -1,8 +1,8 @@
 -- A file that no check from 2 to 6 refuses is sound: check 3 has counted its records, 4 its owners, 5 has seen each node once, 6 registers and starts.
-use mathlib.Core.Path.{_≡_, refl}
-use mathlib.Core.Bool.{Bool, true, false, cond, and-false, true≢false}
+use mathlib.Core.Path.{_≡_}
+use mathlib.Core.Bool.{true, false, and-false, true≢false}
 use mathlib.Core.List.{List, _∷_}
-use Prim.Native.Nat.{ℕ, _+_, _≤_, _<_}
+use Prim.Native.Nat.{ℕ, _+_, _≤_}
 use native.Mathlib.Omega.{arith}
 use lib.Dec.{ltb}
 use lib.ListN.{length}
@@ -14,16 +14,11 @@ use Rattle.definition.specs.Shape.{tooMany, refused2, refused3, refused4}
 use Rattle.definition.specs.References.{refused5}
 use Rattle.definition.specs.Meaning.{registers, starts, definedOnce, refused6}
 use Rattle.definition.specs.Listing.{checked}
-use Rattle.definition.proofs.Bools.{both-false, is-true}
+use Rattle.definition.proofs.Bools.{both-false, is-true, passed}
 use Rattle.records.proofs.Items.{shape-owned}
 use Rattle.values.specs.Keys.{placesOf}
 use Rattle.reads.proofs.Forest.{order-short}
 use Rattle.analyses.specs.Sound.{Sound}
-
--- a number that is not 0 was not chosen
-passed : (b : Bool) (n m : ℕ) → 0 < n → cond b n m ≡ 0 → (b ≡ false) × (m ≡ 0)
-passed true n m h e = absurd (omega arith)
-passed false n m h e = (refl, e)
 
 -- a section that is not too long, and those behind it
 section-few : (f : List ℕ) (s : ℕ) (t : Section) (ts : List Section) → tooMany f s (t ∷ ts) ≡ false → (size f s ≤ t .most) × (tooMany f (s + 1) ts ≡ false)

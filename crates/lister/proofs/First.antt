@@ -3,7 +3,7 @@
 use mathlib.Core.Path.{_≡_, refl}
 use mathlib.Core.Bool.{Bool, true, false, cond}
 use mathlib.Core.List.{List, [], _∷_}
-use Prim.Native.Nat.{ℕ, zero, suc, _<_}
+use Prim.Native.Nat.{ℕ, zero, suc}
 use native.Mathlib.Omega.{arith}
 use lib.Dec.{eqb, ltb, eqb·suc-zero}
 use lib.ListN.{getD}
@@ -19,6 +19,7 @@ use Rattle.definition.specs.Read.{read, allTrees}
 use Rattle.definition.specs.Offsets.{offsets, refused7}
 use Rattle.definition.specs.Listing.{Lent, Outcome, refused8, structure, fitting, printed, checked, list, refusal, resultOf}
 use Rattle.definition.specs.Listing.Outcome.{refused}
+use Rattle.definition.proofs.Bools.{passed}
 use Rattle.tables.specs.Filled.{outside, judged}
 use Rattle.lowered.specs.Lowered.{linesOf, upTo8, firstOf}
 
@@ -43,11 +44,6 @@ module _ (B : Lent) where
   by-first false f = refl
 
 -- ---- where nothing refuses the file
--- a number that is not 0 was not chosen
-passed : (b : Bool) (n m : ℕ) → 0 < n → cond b n m ≡ 0 → (b ≡ false) × (m ≡ 0)
-passed true n m h e = absurd (omega arith)
-passed false n m h e = (refl, e)
-
 behind : (n m : ℕ) → cond (eqb n 0) m n ≡ 0 → (n ≡ 0) × (m ≡ 0)
 behind zero m e = (refl, e)
 behind (suc n) m e = let h = rw (eqb·suc-zero n) at e in absurd (omega (arith, h))

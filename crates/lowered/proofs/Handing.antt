@@ -1,11 +1,11 @@
 -- An answer of 0 behind tests that hold is what lowering asks: the tables have their lengths, the file is sound and shaped, and each table is its own.
 use mathlib.Core.Path.{_≡_, refl, sym, ap, subst, _∙_}
-use mathlib.Core.Bool.{Bool, true, false, cond, _&&_}
+use mathlib.Core.Bool.{Bool, true, cond, _&&_}
 use mathlib.Core.List.{List}
-use Prim.Native.Nat.{ℕ, suc, _*_}
+use Prim.Native.Nat.{ℕ, _*_}
 use native.Mathlib.Omega.{arith}
 use lib.Dec.{eqb}
-use lib.ListN.{length, getD, replicate, length-replicate}
+use lib.ListN.{length, getD, replicate}
 use mir.Syntax.{w8}
 use mir.Val.{Fits}
 use borrow.Author.Tests.{eqb-true, not-false}
@@ -19,7 +19,7 @@ use Rattle.definition.specs.Inline.{readsOf, inline}
 use Rattle.definition.specs.Values.{within}
 use Rattle.definition.specs.Blocks.{readRoots}
 use Rattle.definition.specs.Listing.{checked, lineNumbers}
-use Rattle.definition.proofs.Bools.{by-test, both-true}
+use Rattle.definition.proofs.Bools.{both-true, passed}
 use Rattle.values.specs.Keys.{keyOf, placesOf, keyed}
 use Rattle.values.specs.Tables.{numberOf, numbered, table}
 use Rattle.reads.specs.Counts.{LiveReads, PhiReads}
@@ -28,62 +28,31 @@ use Rattle.names.specs.Codes.{nameCode}
 use Rattle.offsets.specs.Ground.{Ground}
 use Rattle.marks.specs.Labels.{Labels}
 use Rattle.lower.specs.Given.{Lowers}
-use Rattle.tables.specs.Tables.{Tables, most, longValues, longReads, longNames, longMarks, allLong, long}
-use Rattle.tables.specs.Filled.{judged, answer, Filled}
-use Rattle.tables.proofs.Handed.{file-sound, numbers-are, offs-are, live-are, phi-are, roots-are, places-are, names-are, marked-are}
+use Rattle.tables.specs.Tables.{Tables, most}
+use Rattle.tables.specs.Filled.{Filled}
+use Rattle.zeros.proofs.Clearing.{own-zeros}
+use Rattle.tables.proofs.Handed.{chosen, file-checked, file-sound, numbers-long, labels-long, numbers-are, offs-are, live-are, phi-are, roots-are, places-are, names-are, marked-are}
 use Rattle.lent.specs.Lengths.{lentOf, lowFits}
 use Rattle.lowered.specs.Passed.{Passes}
-use Rattle.lowered.proofs.Refusing.{chosen}
 use Rattle.lowered.proofs.Rereading.{read-again}
-
--- ---- what the checks have seen
-unrefused : (b : Bool) (n m : ℕ) → cond b (suc n) m ≡ 0 → (b ≡ false) × (m ≡ 0)
-unrefused true n m e = absurd (omega arith)
-unrefused false n m e = (refl, e)
-
-is-checked : (f : List ℕ) → judged f ≡ 0 → checked edition1 f ≡ 0
-unfolding judged
-is-checked f h = by-test (eqb (checked edition1 f) 0) (λ e. eqb-true (checked edition1 f) 0 e) (λ e. rw e at h)
+use Rattle.lowered.proofs.Clearing.{section}
 
 is-shaped : (f : List ℕ) → checked edition1 f ≡ 0 → shaped f ≡ true
 unfolding checked refused4
 is-shaped f h =
-    let p3 = unrefused (refused2 edition1 f) 1 _ h .1 in
-    let p4 = unrefused (refused3 edition1 f) 2 _ p3 .1 in
-    let p5 = unrefused (refused4 edition1 f) 3 _ p4 .0 in
+    let p3 = passed (refused2 edition1 f) 2 _ (omega arith) h .1 in
+    let p4 = passed (refused3 edition1 f) 3 _ (omega arith) p3 .1 in
+    let p5 = passed (refused4 edition1 f) 4 _ (omega arith) p4 .0 in
     both-true (adjoin f (contents edition1) 0 (edition1 .sections) && owned f) (shaped f) (not-false _ p5) .1
-
--- ---- two lengths
-module _ (o : List ℕ) (T : Tables) (h : long o T ≡ true) where
-  long-numbers : length (T .numbers) ≡ most
-  unfolding allLong longValues
-  long-numbers =
-      let a = both-true (eqb (length o) 2048) _ h in
-      let v = both-true (longValues (length (T .keys)) (length (T .numbers)) (length (T .heads)) (length (T .next)) (length (T .offs))) _ (a .1) in
-      let n = both-true (eqb (length (T .keys)) most) _ (v .0) in
-      eqb-true (length (T .numbers)) most (both-true (eqb (length (T .numbers)) most) _ (n .1) .0)
-
-  long-labels : length (T .labels) ≡ 320
-  unfolding allLong longMarks
-  long-labels =
-      let a = both-true (eqb (length o) 2048) _ h in
-      let v = both-true (longValues (length (T .keys)) (length (T .numbers)) (length (T .heads)) (length (T .next)) (length (T .offs))) _ (a .1) in
-      let r = both-true (longReads (length (T .order)) (length (T .starts)) (length (T .loads)) (length (T .live)) (length (T .phi)) (length (T .readers))) _ (v .1) in
-      let n = both-true (longNames (length (T .roots)) (length (T .places)) (length (T .names)) (length (T .seen)) (length (T .entry))) _ (r .1) in
-      eqb-true (length (T .labels)) 320 (both-true (eqb (length (T .marks)) most) _ (n .1) .1)
 
 -- ---- the tables
 module _ (f : List ℕ) (bytes : (j : ℕ) → Fits w8 (getD f j 0)) (o o′ : List ℕ) (T T′ : Tables) (ns : length (T′ .numbers) ≡ length (T .numbers))
     (ls : length (T′ .labels) ≡ length (T .labels)) (p : Filled f 0 o o′ T T′) where
-  judged-none : (long o T ≡ true) × (judged f ≡ 0)
-  unfolding answer
-  judged-none = chosen (long o T) (judged f) (p .says)
+  numbers-most : length (T′ .numbers) ≡ most
+  numbers-most = ns ∙ numbers-long f o o′ T T′ p
 
-  numbers-long : length (T′ .numbers) ≡ most
-  numbers-long = ns ∙ long-numbers o T (judged-none .0)
-
-  labels-long : length (T′ .labels) ≡ 320
-  labels-long = ls ∙ long-labels o T (judged-none .0)
+  labels-most : length (T′ .labels) ≡ 320
+  labels-most = ls ∙ labels-long f o o′ T T′ p
 
   abbrev n : ℕ
   n = length (T′ .numbers)
@@ -94,24 +63,20 @@ module _ (f : List ℕ) (bytes : (j : ℕ) → Fits w8 (getD f j 0)) (o o′ : L
       record {
         counts = S .own;
         where-all = refl;
-        room = omega (arith, S .few-places, numbers-long);
-        values = numbers-are f o o′ T T′ p ∙ ap (numbered f) (sym numbers-long);
+        room = omega (arith, S .few-places, numbers-most);
+        values = numbers-are f o o′ T T′ p ∙ ap (numbered f) (sym numbers-most);
       }
 
   known : (E : Edition) → text E ≡ 8 → T′ .offs ≡ table f n (look (offsets (read E f)))
-  known E e = offs-are f o o′ T T′ p E e ∙ ap (λ (m : ℕ). table f m (look (offsets (read E f)))) (sym numbers-long)
+  known E e = offs-are f o o′ T T′ p E e ∙ ap (λ (m : ℕ). table f m (look (offsets (read E f)))) (sym numbers-most)
 
   rooted : (E : Edition) → T′ .roots ≡ table f n (λ v. numberOf (keyed f n) (keyOf (find (classes (read E f)) v)))
-  rooted E = roots-are f o o′ T T′ p E ∙ ap (λ (m : ℕ). table f m (λ v. numberOf (keyed f m) (keyOf (find (classes (read E f)) v)))) (sym numbers-long)
+  rooted E = roots-are f o o′ T T′ p E ∙ ap (λ (m : ℕ). table f m (λ v. numberOf (keyed f m) (keyOf (find (classes (read E f)) v)))) (sym numbers-most)
 
   really : (E : Edition) → text E ≡ 8 → T′ .marks ≡ table f n (λ v. cond (within v (readRoots (read E f) (offsets (read E f)) (classes (read E f)))) 1 0)
   really E e =
       marked-are f o o′ T T′ p .really E e
-      ∙ ap (λ (m : ℕ). table f m (λ v. cond (within v (readRoots (read E f) (offsets (read E f)) (classes (read E f)))) 1 0)) (sym numbers-long)
-
-  section : text edition1 ≡ 8
-  unfolding text edition1
-  section = refl
+      ∙ ap (λ (m : ℕ). table f m (λ v. cond (within v (readRoots (read E f) (offsets (read E f)) (classes (read E f)))) 1 0)) (sym numbers-most)
 
   pub lowers : Lowers f 8 (T′ .numbers) (T′ .offs) (T′ .places) (T′ .names) (T′ .live) (T′ .phi) (T′ .roots) (T′ .marks) (T′ .labels)
   lowers = record {
@@ -119,27 +84,24 @@ module _ (f : List ℕ) (bytes : (j : ℕ) → Fits w8 (getD f j 0)) (o o′ : L
       ground = ground;
       once = file-sound f o o′ T T′ p .once;
       known = known;
-      placed = λ E. places-are f o o′ T T′ p E ∙ ap (λ (m : ℕ). table f m (placeOf E f)) (sym numbers-long);
+      placed = λ E. places-are f o o′ T T′ p E ∙ ap (λ (m : ℕ). table f m (placeOf E f)) (sym numbers-most);
       named = λ E.
           names-are f o o′ T T′ p E
-          ∙ ap (λ (m : ℕ). table f m (nameCode (read E f) (classes (read E f)) (inline (read E f) (readsOf (read E f))))) (sym numbers-long);
+          ∙ ap (λ (m : ℕ). table f m (nameCode (read E f) (classes (read E f)) (inline (read E f) (readsOf (read E f))))) (sym numbers-most);
     };
-    shape = is-shaped f (is-checked f (judged-none .1));
-    times = subst (λ (m : ℕ). LiveReads f m (T′ .live)) (sym numbers-long) (live-are f o o′ T T′ p);
-    flows = subst (λ (m : ℕ). PhiReads f m (T′ .phi)) (sym numbers-long) (phi-are f o o′ T T′ p);
+    shape = is-shaped f (file-checked f o o′ T T′ p);
+    times = subst (λ (m : ℕ). LiveReads f m (T′ .live)) (sym numbers-most) (live-are f o o′ T T′ p);
+    flows = subst (λ (m : ℕ). PhiReads f m (T′ .phi)) (sym numbers-most) (phi-are f o o′ T T′ p);
     classed = record {
       rooted = rooted;
       read =
           read-again f bytes 8 (T′ .numbers) (T′ .offs) ground (T′ .roots) edition1 (offsets (read edition1 f)) (T′ .marks) section (known edition1 section)
           (rooted edition1) (really edition1 section);
     };
-    targets = subst (λ (m : ℕ). Labels f m (T′ .labels)) (sym labels-long) (marked-are f o o′ T T′ p .labelled);
+    targets = subst (λ (m : ℕ). Labels f m (T′ .labels)) (sym labels-most) (marked-are f o o′ T T′ p .labelled);
   }
 
--- ---- zeros to write over
-own-zeros : (l₀ l : List ℕ) → l ≡ replicate (length l₀) 0 → l ≡ replicate (length l) 0
-own-zeros l₀ l e = e ∙ ap (λ (m : ℕ). replicate m 0) (sym (ap length e ∙ length-replicate (length l₀) 0))
-
+-- ---- what is written to
 three-long : (l k x : ℕ) → lowFits edition1 (lentOf l k x) ≡ true
     → (l ≡ lineNumbers * edition1 .lowered .lines) × (k ≡ edition1 .lowered .tokens) × (x ≡ edition1 .lowered .bytes)
 unfolding lowFits
@@ -154,9 +116,9 @@ module _ (ready fit : Bool) (f : List ℕ) (bytes : (j : ℕ) → Fits w8 (getD 
       → length (T′ .numbers) ≡ length (T .numbers) → length (T′ .labels) ≡ length (T .labels) → fit ≡ lowFits edition1 (lentOf (length l) (length k) (length x)) → n ≡ cond (ready && fit) s 1
       → Passes f n l k x (T′ .numbers) (T′ .offs) (T′ .places) (T′ .names) (T′ .live) (T′ .phi) (T′ .roots) (T′ .marks) (T′ .labels)
   passes z p ns ls a b = record {
-    no-lines = own-zeros l₀ l (z .0);
-    no-tokens = own-zeros k₀ k (z .1);
-    no-text = own-zeros x₀ x (z .2);
+    no-lines = own-zeros l (length l₀) (z .0);
+    no-tokens = own-zeros k (length k₀) (z .1);
+    no-text = own-zeros x (length x₀) (z .2);
     room = λ e. three-long (length l) (length k) (length x) (sym a ∙ both-true ready fit (chosen (ready && fit) s (sym e ∙ b) .0) .1);
     given = λ e. lowers f bytes o o′ T T′ ns ls (subst (λ (m : ℕ). Filled f m o o′ T T′) (chosen (ready && fit) s (sym e ∙ b) .1) p);
   }

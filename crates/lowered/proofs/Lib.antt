@@ -1,5 +1,6 @@
 mod Refusing
 mod Rereading
+mod Clearing
 mod Handing
 mod Writing
 mod Whole

@@ -1,13 +1,7 @@
 -- The refusals that come before 8, in order: two tests of what is lent, and what the file is refused for.
-use mathlib.Core.Path.{_≡_, refl, sym}
+use mathlib.Core.Path.{_≡_, refl}
 use mathlib.Core.Bool.{Bool, true, false, cond, _&&_}
 use Prim.Native.Nat.{ℕ}
-use native.Mathlib.Omega.{arith}
-
--- 1 was not chosen
-pub chosen : (b : Bool) (n : ℕ) → 0 ≡ cond b n 1 → (b ≡ true) × (n ≡ 0)
-chosen true n e = (refl, sym e)
-chosen false n e = absurd (omega arith)
 
 -- the test of another crate's tables is the last one
 pub all-tests : (r b l : Bool) (n : ℕ) → cond (r && b) (cond l n 1) 1 ≡ cond (r && (b && l)) n 1

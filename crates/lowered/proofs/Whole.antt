@@ -1,55 +1,46 @@
--- The whole: the refusals in order, the lines or zeros, and tables that end as zeros, those that were handed out by being emptied behind the lines.
-use mathlib.Core.Path.{_≡_, refl, ap, _∙_}
+-- The whole: the refusals in order, the lines or zeros, and tables that end as zeros, those that were handed out by being emptied.
+use mathlib.Core.Path.{_≡_, refl, sym, ap, _∙_}
 use mathlib.Core.Bool.{Bool, cond, _&&_}
 use mathlib.Core.List.{List}
 use Prim.Native.Nat.{ℕ}
-use lib.ListN.{length, replicate, length-replicate}
+use lib.ListN.{length, replicate}
 use Rattle.definition.specs.Edition.{edition1}
 use Rattle.tables.specs.Tables.{Tables, tablesOf, zeros, cleared, long}
 use Rattle.tables.specs.Filled.{judged, answer, Filled}
+use Rattle.tables.proofs.Emptying.{long-zeros, zeros-of}
 use Rattle.lent.specs.Lengths.{lentOf, lowFits}
 use Rattle.lowered.specs.declared.Lowered.{Lowered}
 use Rattle.lowered.specs.Lowered.{lowOf, upTo8, firstOf, lowIn, LoweredIn}
+use Rattle.lowered.specs.Emptied.{filledTo, emptied}
 use Rattle.lowered.proofs.Refusing.{all-tests}
+use Rattle.lowered.proofs.Clearing.{numbers-gone, offs-gone, places-gone, names-gone, live-gone, phi-gone, roots-gone, marks-gone}
 
-zeros-long : (l₀ l : List ℕ) → l ≡ replicate (length l₀) 0 → length l ≡ length l₀
-zeros-long l₀ l e = ap length e ∙ length-replicate (length l₀) 0
-
--- k, as long as l, was emptied to m
-abbrev Gone : List ℕ → List ℕ → List ℕ → Type 0
-Gone l k m = (length k ≡ length l) × (m ≡ replicate (length k) 0)
-
-gone : (l k m : List ℕ) → Gone l k m → m ≡ zeros l
-unfolding zeros
-gone l k m g = g .1 ∙ ap (λ (n : ℕ). replicate n 0) (g .0)
-
-module _ (f : List ℕ) (s : ℕ) (o o′ : List ℕ) (T U : Tables) (p : Filled f s o o′ T U) (numbers offs places names live phi roots marks labels : List ℕ) where
-  all-gone : Gone (T .numbers) (U .numbers) numbers → Gone (T .offs) (U .offs) offs → Gone (T .places) (U .places) places → Gone (T .names) (U .names) names
-      → Gone (T .live) (U .live) live → Gone (T .phi) (U .phi) phi → Gone (T .roots) (U .roots) roots → Gone (T .marks) (U .marks) marks
-      → Gone (T .labels) (U .labels) labels
+module _ (f : List ℕ) (s : ℕ) (o o′ : List ℕ) (T U : Tables) (p : Filled f s o o′ T U) (i : ℕ) (filled : i ≡ filledTo f s) (numbers offs places names live phi roots marks labels : List ℕ) where
+  all-gone : length (U .labels) ≡ length (T .labels)
+      → (numbers ≡ emptied i (U .numbers)) × (offs ≡ emptied i (U .offs)) × (places ≡ emptied i (U .places)) × (names ≡ emptied i (U .names)) × (live ≡ emptied i (U .live)) × (phi ≡ emptied i (U .phi)) × (roots ≡ emptied i (U .roots)) × (marks ≡ emptied i (U .marks)) × (labels ≡ replicate (length (U .labels)) 0)
       → tablesOf (U .keys) numbers (U .heads) (U .next) offs (U .order) (U .starts) (U .loads) live phi (U .readers) roots places names (U .seen) (U .entry) marks labels ≡ cleared T
-  unfolding cleared
-  all-gone a b d e g h i j k =
+  unfolding cleared zeros
+  all-gone w g =
       let H = p .tables in
       rw (
         H .keys,
-        gone (T .numbers) (U .numbers) numbers a,
+        g .0 ∙ numbers-gone f s o o′ T U p i filled,
         H .heads,
         H .next,
-        gone (T .offs) (U .offs) offs b,
+        g .1 ∙ offs-gone f s o o′ T U p i filled,
         H .order,
         H .starts,
         H .loads,
-        gone (T .live) (U .live) live g,
-        gone (T .phi) (U .phi) phi h,
+        g .4 ∙ live-gone f s o o′ T U p i filled,
+        g .5 ∙ phi-gone f s o o′ T U p i filled,
         H .readers,
-        gone (T .roots) (U .roots) roots i,
-        gone (T .places) (U .places) places d,
-        gone (T .names) (U .names) names e,
+        g .6 ∙ roots-gone f s o o′ T U p i filled,
+        g .2 ∙ places-gone f s o o′ T U p i filled,
+        g .3 ∙ names-gone f s o o′ T U p i filled,
         H .seen,
         H .entry,
-        gone (T .marks) (U .marks) marks j,
-        gone (T .labels) (U .labels) labels k,
+        g .7 ∙ marks-gone f s o o′ T U p i filled,
+        zeros-of labels (length (U .labels)) (length (T .labels)) (sym w) (g .8),
       )
       refl
 
@@ -64,12 +55,9 @@ module _ (f : List ℕ) (s : ℕ) (o o′ : List ℕ) (T U : Tables) (p : Filled
     pub whole : (l ≡ replicate (length l₀) 0) × (k ≡ replicate (length k₀) 0) × (x ≡ replicate (length x₀) 0)
         → fit ≡ lowFits edition1 (lentOf (length l) (length k) (length x)) → n ≡ cond (ready && fit) s 1
         → lowOf r l′ k′ x′ ≡ lowIn (length l) (length k) (length x) f (upTo8 f n)
-        → (length (U .numbers) ≡ length (T .numbers)) × (length (U .offs) ≡ length (T .offs)) × (length (U .places) ≡ length (T .places))
-        × (length (U .names) ≡ length (T .names)) × (length (U .live) ≡ length (T .live)) × (length (U .phi) ≡ length (T .phi))
-        × (length (U .roots) ≡ length (T .roots)) × (length (U .marks) ≡ length (T .marks)) × (length (U .labels) ≡ length (T .labels))
-        → (numbers ≡ replicate (length (U .numbers)) 0) × (offs ≡ replicate (length (U .offs)) 0) × (places ≡ replicate (length (U .places)) 0)
-        × (names ≡ replicate (length (U .names)) 0) × (live ≡ replicate (length (U .live)) 0) × (phi ≡ replicate (length (U .phi)) 0)
-        × (roots ≡ replicate (length (U .roots)) 0) × (marks ≡ replicate (length (U .marks)) 0) × (labels ≡ replicate (length (U .labels)) 0)
+        → length (U .labels) ≡ length (T .labels)
+        → (numbers ≡ emptied i (U .numbers)) × (offs ≡ emptied i (U .offs)) × (places ≡ emptied i (U .places)) × (names ≡ emptied i (U .names)) × (live ≡ emptied i (U .live)) × (phi ≡ emptied i (U .phi)) × (roots ≡ emptied i (U .roots)) × (marks ≡ emptied i (U .marks))
+        × (labels ≡ replicate (length (U .labels)) 0)
         → LoweredIn ready f o o′ T
         (tablesOf (U .keys) numbers (U .heads) (U .next) offs (U .order) (U .starts) (U .loads) live phi (U .readers) roots places names (U .seen) (U .entry) marks labels)
         l₀ k₀ x₀ r l′ k′ x′
@@ -77,8 +65,7 @@ module _ (f : List ℕ) (s : ℕ) (o o′ : List ℕ) (T U : Tables) (p : Filled
     whole z a b e w g = record {
       low =
           e ∙ ap (λ (m : ℕ). lowIn (length l) (length k) (length x) f (upTo8 f m)) (refusals a b)
-          ∙ rw (zeros-long l₀ l (z .0), zeros-long k₀ k (z .1), zeros-long x₀ x (z .2)) refl;
+          ∙ rw (long-zeros l (length l₀) (z .0), long-zeros k (length k₀) (z .1), long-zeros x (length x₀) (z .2)) refl;
       scratch = p .scratch;
-      tables =
-          all-gone (w .0, g .0) (w .1, g .1) (w .2, g .2) (w .3, g .3) (w .4, g .4) (w .5, g .5) (w .6, g .6) (w .7, g .7) (w .8, g .8);
+      tables = all-gone w g;
     }

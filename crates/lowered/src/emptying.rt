@@ -1,19 +1,22 @@
-// The tables that lowering read, emptied.
-use lent::clearing::clear_longs;
-use references::owned::clear;
+// The tables that lowering read, emptied as far as they are filled.
+use tables::clearing::clear_four;
+use values::places::places_of;
+use zeros::clear_longs;
 ghost use mathlib.Core.Path.{_≡_};
 ghost use lib.ListN.{length, replicate};
+ghost use Rattle.lowered.specs.Emptied.{filledTo, emptied, Reach};
 
-fn clear_four(a: &mut [u32], b: &mut [u32], c: &mut [u32], d: &mut [u32])
-    ensures { λ _. ⌜ (now (a .exit) ≡ replicate (length (now (a .entry))) 0) × (now (b .exit) ≡ replicate (length (now (b .entry))) 0)
-        × (now (c .exit) ≡ replicate (length (now (c .entry))) 0) × (now (d .exit) ≡ replicate (length (now (d .entry))) 0) ⌝ }
+// A number for each place of the file; none where n refuses it, as all tables are zeros then.
+pub fn filled(f: &[u8], n: u32) -> usize
+    ensures { λ r. ⌜ r ≡ filledTo (now (f .entry)) n ⌝ }
 {
-    clear(a);
-    clear(b);
-    clear(c);
-    clear(d);
+    if n != 0 {
+        return 0;
+    }
+    places_of(f).total
 }
 
+// The first n numbers of each table by place, and all labels.
 pub fn clear_handed(
     numbers: &mut [u32],
     offs: &mut [u64],
@@ -24,18 +27,25 @@ pub fn clear_handed(
     roots: &mut [u32],
     marks: &mut [u32],
     labels: &mut [u32],
+    n: usize,
 )
-    ensures { λ _. ⌜ (now (numbers .exit) ≡ replicate (length (now (numbers .entry))) 0)
-        × (now (offs .exit) ≡ replicate (length (now (offs .entry))) 0)
-        × (now (places .exit) ≡ replicate (length (now (places .entry))) 0)
-        × (now (names .exit) ≡ replicate (length (now (names .entry))) 0)
-        × (now (live .exit) ≡ replicate (length (now (live .entry))) 0)
-        × (now (phi .exit) ≡ replicate (length (now (phi .entry))) 0)
-        × (now (roots .exit) ≡ replicate (length (now (roots .entry))) 0)
-        × (now (marks .exit) ≡ replicate (length (now (marks .entry))) 0)
+    requires { ⌜ Reach n (now numbers) (now offs) (now places) (now names) (now live) (now phi) (now roots) (now marks) ⌝ }
+    ensures { λ _. ⌜ (now (numbers .exit) ≡ emptied n (now (numbers .entry)))
+        × (now (offs .exit) ≡ emptied n (now (offs .entry)))
+        × (now (places .exit) ≡ emptied n (now (places .entry)))
+        × (now (names .exit) ≡ emptied n (now (names .entry)))
+        × (now (live .exit) ≡ emptied n (now (live .entry)))
+        × (now (phi .exit) ≡ emptied n (now (phi .entry)))
+        × (now (roots .exit) ≡ emptied n (now (roots .entry)))
+        × (now (marks .exit) ≡ emptied n (now (marks .entry)))
         × (now (labels .exit) ≡ replicate (length (now (labels .entry))) 0) ⌝ }
 {
-    clear_longs(offs);
-    clear_four(numbers, places, names, live);
-    clear_four(phi, roots, marks, labels);
+    clear_longs(&mut offs[..n]);
+    clear_four(
+        &mut numbers[..n],
+        &mut places[..n],
+        &mut names[..n],
+        &mut live[..n],
+    );
+    clear_four(&mut phi[..n], &mut roots[..n], &mut marks[..n], labels);
 }

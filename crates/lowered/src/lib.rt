@@ -3,6 +3,7 @@ mod emptying;
 mod passed;
 
 use crate::emptying::clear_handed;
+use crate::emptying::filled;
 use crate::passed::lower_passed;
 use lent::clearing::clear_sheet;
 use lent::lengths::first_refusal;
@@ -52,7 +53,7 @@ pub extern "C" fn sorkhelaw_lowered(
         (now (lines .entry)) (now (tokens .entry)) (now (text .entry)) r (now (lines .exit)) (now (tokens .exit)) (now (text .exit)) ⌝ }
 {
     clear_sheet(lines, tokens, text);
-    let n = fill(
+    let judged = fill(
         f,
         owners,
         keys,
@@ -74,7 +75,11 @@ pub extern "C" fn sorkhelaw_lowered(
         marks,
         labels,
     );
-    let n = first_refusal(ready, low_fits(lines.len(), tokens.len(), text.len()), n);
+    let n = first_refusal(
+        ready,
+        low_fits(lines.len(), tokens.len(), text.len()),
+        judged,
+    );
     let r = lower_passed(
         lines,
         tokens,
@@ -91,6 +96,7 @@ pub extern "C" fn sorkhelaw_lowered(
         marks,
         labels,
     );
+    let k = filled(f, judged);
     clear_handed(
         numbers,
         offs,
@@ -101,6 +107,7 @@ pub extern "C" fn sorkhelaw_lowered(
         roots,
         marks,
         labels,
+        k,
     );
     r
 }

@@ -21,7 +21,7 @@ own : (l : List ℕ) (n : ℕ) → l ≡ zeros l → length l ≡ n → l ≡ re
 unfolding zeros
 own l n e p = e ∙ ap (λ (k : ℕ). replicate k 0) p
 
-unvalued : (T : Tables) → T ≡ cleared T → longValues (length (T .keys)) (length (T .numbers)) (length (T .heads)) (length (T .next)) (length (T .offs)) ≡ true → Unvalued (T .keys) (T .numbers) (T .heads) (T .next) (T .offs)
+unvalued : (T : Tables) → T ≡ cleared T → longValues (length (T .keys)) (length (T .numbers)) (length (T .heads)) (length (T .next)) (length (T .offs)) ≡ true → Unvalued most (T .keys) (T .numbers) (T .heads) (T .next) (T .offs)
 unfolding longValues cleared
 unvalued T e h =
     let a = test (length (T .keys)) most _ h in
@@ -37,7 +37,7 @@ unvalued T e h =
     }
 
 unread : (T : Tables) → T ≡ cleared T → longReads (length (T .order)) (length (T .starts)) (length (T .loads)) (length (T .live)) (length (T .phi)) (length (T .readers)) ≡ true
-    → Unread (T .order) (T .starts) (T .loads) (T .live) (T .phi) (T .readers)
+    → Unread most (T .order) (T .starts) (T .loads) (T .live) (T .phi) (T .readers)
 unfolding longReads cleared
 unread T e h =
     let a = test (length (T .order)) 2048 _ h in
@@ -54,7 +54,7 @@ unread T e h =
       no-readers = own (T .readers) most (ap (λ (U : Tables). U .readers) e) (is-long (length (T .readers)) most (k .1));
     }
 
-unnamed : (T : Tables) → T ≡ cleared T → longNames (length (T .roots)) (length (T .places)) (length (T .names)) (length (T .seen)) (length (T .entry)) ≡ true → Unnamed (T .roots) (T .places) (T .names) (T .seen) (T .entry)
+unnamed : (T : Tables) → T ≡ cleared T → longNames (length (T .roots)) (length (T .places)) (length (T .names)) (length (T .seen)) (length (T .entry)) ≡ true → Unnamed most (T .roots) (T .places) (T .names) (T .seen) (T .entry)
 unfolding longNames cleared
 unnamed T e h =
     let a = test (length (T .roots)) most _ h in
@@ -69,7 +69,7 @@ unnamed T e h =
       no-entry = own (T .entry) most (ap (λ (U : Tables). U .entry) e) (is-long (length (T .entry)) most (g .1));
     }
 
-unmarked : (T : Tables) → T ≡ cleared T → longMarks (length (T .marks)) (length (T .labels)) ≡ true → Unmarked (T .marks) (T .labels)
+unmarked : (T : Tables) → T ≡ cleared T → longMarks (length (T .marks)) (length (T .labels)) ≡ true → Unmarked most (T .marks) (T .labels)
 unfolding longMarks cleared
 unmarked T e h =
     let a = test (length (T .marks)) most _ h in
@@ -83,7 +83,7 @@ module _ (o : List ℕ) (T : Tables) (h : long o T ≡ true) where
   unfolding allLong
   long-owners = test (length o) 2048 _ h .0
 
-  pub blank : T ≡ cleared T → Blank T
+  pub blank : T ≡ cleared T → Blank most T
   unfolding allLong
   blank e =
       let a = test (length o) 2048 _ h in

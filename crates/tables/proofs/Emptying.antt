@@ -1,5 +1,5 @@
--- Tables emptied one by one are the record of empty tables; emptied again they are the same.
-use mathlib.Core.Path.{_≡_, refl, ap}
+-- Zeros of one length are zeros of every equal length. Tables emptied one by one are the record of empty tables; emptied again they are the same.
+use mathlib.Core.Path.{_≡_, refl, sym, ap, _∙_}
 use mathlib.Core.Bool.{cond}
 use mathlib.Core.List.{List}
 use Prim.Native.Nat.{ℕ}
@@ -8,6 +8,19 @@ use lib.ListN.{length, replicate, length-replicate}
 use Rattle.tables.specs.Tables.{Tables, zeros, cleared, long}
 use Rattle.tables.specs.Filled.{given}
 
+-- ---- one list
+pub long-zeros : (l : List ℕ) (n : ℕ) → l ≡ replicate n 0 → length l ≡ n
+long-zeros l n e = ap length e ∙ length-replicate n 0
+
+-- zeros of some length are zeros of any equal one
+pub zeros-of : (l : List ℕ) (n m : ℕ) → m ≡ n → l ≡ replicate n 0 → l ≡ replicate m 0
+zeros-of l n m p e = e ∙ ap (λ (k : ℕ). replicate k 0) (sym p)
+
+-- a table emptied twice: l before, k behind its first writer, m at the end
+pub again : (l k m : List ℕ) (n : ℕ) → l ≡ replicate n 0 → length k ≡ length l → m ≡ replicate (length k) 0 → m ≡ replicate n 0
+again l k m n e p q = zeros-of m (length k) n (sym (p ∙ long-zeros l n e)) q
+
+-- ---- all tables
 -- tables are equal where all of them are
 pub same-tables : (U W : Tables)
     → U .keys ≡ W .keys → U .numbers ≡ W .numbers → U .heads ≡ W .heads

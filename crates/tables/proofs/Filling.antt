@@ -2,21 +2,29 @@
 use mathlib.Core.Path.{_≡_, refl, sym, ap, subst, _∙_}
 use mathlib.Core.Bool.{Bool, true, false, not, cond}
 use mathlib.Core.List.{List}
-use Prim.Native.Nat.{ℕ}
+use Prim.Native.Nat.{ℕ, _≤_}
 use native.Mathlib.Omega.{arith}
-use lib.ListN.{length, replicate}
+use native.Mathlib.Decide.{ℕ-discrete}
+use lib.ListN.{length, getD, replicate}
+use mir.Syntax.{w8}
+use mir.Val.{Fits}
 use borrow.Author.Tests.{eq-eqb, ne-eqb, not-true, not-false}
 use Rattle.definition.specs.Edition.{edition1}
 use Rattle.definition.specs.Read.{read, allTrees}
 use Rattle.definition.specs.Offsets.{offsets, refused7}
 use Rattle.definition.specs.Listing.{checked}
+use Rattle.zeros.proofs.Clearing.{own-zeros}
+use Rattle.values.specs.declared.places.Places.{Places}
+use Rattle.values.specs.Keys.{placesOf}
 use Rattle.file.specs.Verdicts.{verdict, Checked}
+use Rattle.analyses.specs.Sound.{Sound}
+use Rattle.analyses.proofs.Sound.{sound}
 use Rattle.tables.specs.Tables.{Tables, tablesOf, most, zeros, cleared, long}
 use Rattle.tables.specs.Filled.{outside, judged, answer, given, Held, Filled}
-use Rattle.tables.specs.Stages.{Grounded, Stacked, Counted, Called, Blank, Analysed}
-use Rattle.tables.proofs.Staging.{long-zeros, zeros-of, own-zeros}
-use Rattle.tables.proofs.Emptying.{all-clear, zeros-twice, given-twice, clear-twice, long-cleared}
-use Rattle.tables.proofs.Blanks.{long-owners}
+use Rattle.tables.specs.Stages.{width, Grounded, Stacked, Counted, Called, Blank, Staged, Analysed}
+use Rattle.tables.proofs.Emptying.{long-zeros, zeros-of, again, all-clear, zeros-twice, given-twice, clear-twice, long-cleared}
+use Rattle.tables.proofs.Blanks.{long-owners, blank}
+use Rattle.tables.proofs.Lending.{fronts, widened, lent-blank, still-blank, still-staged}
 
 -- ---- tables
 none-given : (r : ℕ) (l t : List ℕ) → (r ≡ 0 → ⊥) → zeros l ≡ given r l t
@@ -31,11 +39,6 @@ all-given l t = refl
 as-zeros : (l m : List ℕ) (n : ℕ) → l ≡ replicate n 0 → m ≡ replicate n 0 → m ≡ zeros l
 unfolding zeros
 as-zeros l m n p q = zeros-of m n (length l) (long-zeros l n p) q
-
--- l, written to as k, was emptied to m
-pub emptied : (l k m : List ℕ) → length k ≡ length l → m ≡ replicate (length k) 0 → m ≡ zeros l
-unfolding zeros
-emptied l k m p q = zeros-of m (length k) (length l) (sym p) q
 
 pub refused-held : (f : List ℕ) (r : ℕ) (T T′ : Tables) → (r ≡ 0 → ⊥) → T′ ≡ cleared T → Held f r T T′
 unfolding cleared
@@ -60,60 +63,121 @@ refused-held f r T T′ h e = record {
   labels = λ E. ap (λ (U : Tables). U .labels) e ∙ none-given r (T .labels) _ h;
 }
 
-module _ (f : List ℕ) (T T′ : Tables) (b : Blank T) where
-  pub filled-held : Grounded f (T′ .numbers) → Stacked f (T′ .offs) → T′ .keys ≡ zeros (T .keys) → T′ .heads ≡ zeros (T .heads) → T′ .next ≡ zeros (T .next)
-      → Counted f (T′ .order) (T′ .starts) (T′ .loads) (T′ .live) (T′ .phi) (T′ .readers)
-      → Called f (T′ .roots) (T′ .places) (T′ .names) (T′ .seen) (T′ .entry) (T′ .marks) (T′ .labels) → Held f 0 T T′
-  filled-held g s k h x d n = record {
-    keys = k;
-    numbers = g .numbers ∙ all-given (T .numbers) _;
-    heads = h;
-    next = x;
-    offs = λ E p. s E p ∙ all-given (T .offs) _;
-    order = as-zeros (T .order) (T′ .order) 2048 (b .unread .no-order) (d .no-order);
-    starts = as-zeros (T .starts) (T′ .starts) 1025 (b .unread .no-starts) (d .no-starts);
-    loads = as-zeros (T .loads) (T′ .loads) 2048 (b .unread .no-loads) (d .no-loads);
-    live = λ E. d .times E ∙ all-given (T .live) _;
-    phi = λ E. d .flows E ∙ all-given (T .phi) _;
-    readers = as-zeros (T .readers) (T′ .readers) most (b .unread .no-readers) (d .no-readers);
-    roots = λ E. n .rooted E ∙ all-given (T .roots) _;
-    places = λ E. n .placed E ∙ all-given (T .places) _;
-    names = λ E. n .named E ∙ all-given (T .names) _;
-    seen = as-zeros (T .seen) (T′ .seen) most (b .unnamed .no-seen) (n .no-seen);
-    entry = as-zeros (T .entry) (T′ .entry) most (b .unnamed .no-entry) (n .no-entry);
-    marks = λ E p. n .marked .really E p ∙ all-given (T .marks) _;
-    labels = λ E. n .marked .labelled E ∙ all-given (T .labels) _;
+module _ (T T′ : Tables) (b : Blank most T) where
+  blank-held : (f : List ℕ) (r : ℕ) → (r ≡ 0 → ⊥) → Blank most T′ → Held f r T T′
+  blank-held f r h d =
+      refused-held f r T T′ h
+      (all-clear T T′
+      (same most (b .unvalued .no-keys) (d .unvalued .no-keys), same most (b .unvalued .no-numbers) (d .unvalued .no-numbers), same most (b .unvalued .no-offs) (d .unvalued .no-offs))
+      (same 1024 (b .unvalued .no-heads) (d .unvalued .no-heads), same most (b .unvalued .no-next) (d .unvalued .no-next), same 2048 (b .unread .no-order) (d .unread .no-order), same 1025 (b .unread .no-starts) (d .unread .no-starts))
+      (same 2048 (b .unread .no-loads) (d .unread .no-loads), same most (b .unread .no-live) (d .unread .no-live), same most (b .unread .no-phi) (d .unread .no-phi), same most (b .unread .no-readers) (d .unread .no-readers))
+      (same most (b .unnamed .no-roots) (d .unnamed .no-roots), same most (b .unnamed .no-places) (d .unnamed .no-places), same most (b .unnamed .no-names) (d .unnamed .no-names), same most (b .unnamed .no-seen) (d .unnamed .no-seen))
+      (same most (b .unnamed .no-entry) (d .unnamed .no-entry), same most (b .unmarked .no-marks) (d .unmarked .no-marks), same 320 (b .unmarked .no-labels) (d .unmarked .no-labels)))
+    where
+      same : {l m : List ℕ} (n : ℕ) → l ≡ replicate n 0 → m ≡ replicate n 0 → m ≡ replicate (length l) 0
+      same {l} {m} n p q = zeros-of m n (length l) (long-zeros l n p) q
+
+  staged-held : (f : List ℕ) → Staged f most T′ → Held f 0 T T′
+  staged-held f s = record {
+    keys = as-zeros (T .keys) (T′ .keys) most (b .unvalued .no-keys) (s .no-keys);
+    numbers = s .numbers ∙ all-given (T .numbers) _;
+    heads = as-zeros (T .heads) (T′ .heads) 1024 (b .unvalued .no-heads) (s .no-heads);
+    next = as-zeros (T .next) (T′ .next) most (b .unvalued .no-next) (s .no-next);
+    offs = λ E p. s .stacked E p ∙ all-given (T .offs) _;
+    order = as-zeros (T .order) (T′ .order) 2048 (b .unread .no-order) (s .counted .no-order);
+    starts = as-zeros (T .starts) (T′ .starts) 1025 (b .unread .no-starts) (s .counted .no-starts);
+    loads = as-zeros (T .loads) (T′ .loads) 2048 (b .unread .no-loads) (s .counted .no-loads);
+    live = λ E. s .counted .times E ∙ all-given (T .live) _;
+    phi = λ E. s .counted .flows E ∙ all-given (T .phi) _;
+    readers = as-zeros (T .readers) (T′ .readers) most (b .unread .no-readers) (s .counted .no-readers);
+    roots = λ E. s .called .rooted E ∙ all-given (T .roots) _;
+    places = λ E. s .called .placed E ∙ all-given (T .places) _;
+    names = λ E. s .called .named E ∙ all-given (T .names) _;
+    seen = as-zeros (T .seen) (T′ .seen) most (b .unnamed .no-seen) (s .called .no-seen);
+    entry = as-zeros (T .entry) (T′ .entry) most (b .unnamed .no-entry) (s .called .no-entry);
+    marks = λ E p. s .called .marked .really E p ∙ all-given (T .marks) _;
+    labels = λ E. s .called .marked .labelled E ∙ all-given (T .labels) _;
   }
 
 -- ---- a sound file
-module _ (f : List ℕ) (T T′ : Tables) (r : Bool) (e : r ≡ refused7 (offsets (read edition1 f)) (allTrees edition1 f)) where
-  pub beyond : r ≡ true → T′ ≡ cleared T → Analysed f 7 T T′
+analysed-held : (f : List ℕ) (T U : Tables) → Blank most T → (r : ℕ) → Analysed f most r U → Held f r T U
+analysed-held f T U b r a = go (ℕ-discrete r 0)
+  where
+    go : Dec (r ≡ 0) → Held f r T U
+    go (yes q) = subst (λ (k : ℕ). Held f k T U) (sym q) (staged-held T U b f (a .passed q))
+    go (no d) = blank-held T U b f r d (a .refused d)
+
+module _ (f : List ℕ) (n : ℕ) (U : Tables) (r : Bool) (e : r ≡ refused7 (offsets (read edition1 f)) (allTrees edition1 f)) where
+  pub beyond : r ≡ true → Blank n U → Analysed f n 7 U
   unfolding outside
-  beyond h z = record {
+  beyond h b = record {
     says = sym (ap (λ (x : Bool). cond x 7 0) (sym e ∙ h));
-    held = refused-held f 7 T T′ (λ q. omega arith) z;
+    refused = λ q. b;
+    passed = λ q. absurd (omega arith);
   }
 
-  pub inside : r ≡ false → Held f 0 T T′ → Analysed f 0 T T′
+  pub inside : r ≡ false → Staged f n U → Analysed f n 0 U
   unfolding outside
-  inside h z = record { says = sym (ap (λ (x : Bool). cond x 7 0) (sym e ∙ h)); held = z }
+  inside h s = record {
+    says = sym (ap (λ (x : Bool). cond x 7 0) (sym e ∙ h));
+    refused = λ q. absurd (q refl);
+    passed = λ q. s;
+  }
 
 -- the tables of values emptied again, the others not yet written
-pub wiped : (T : Tables) (ks ns os ks′ ns′ hs xs os′ : List ℕ) → Blank T
+pub wiped : (n : ℕ) (T : Tables) (ks ns os ks′ ns′ hs xs os′ : List ℕ) → Blank n T
     → length ks ≡ length (T .keys) → length ns ≡ length (T .numbers) → length os ≡ length (T .offs) → length hs ≡ length (T .heads) → length xs ≡ length (T .next)
     → hs ≡ replicate (length hs) 0 → xs ≡ replicate (length xs) 0
     → (ks′ ≡ replicate (length ks) 0) × (ns′ ≡ replicate (length ns) 0) × (os′ ≡ replicate (length os) 0)
-    → tablesOf ks′ ns′ hs xs os′ (T .order) (T .starts) (T .loads) (T .live) (T .phi) (T .readers) (T .roots) (T .places) (T .names) (T .seen) (T .entry) (T .marks) (T .labels)
-    ≡ cleared T
-wiped T ks ns os ks′ ns′ hs xs os′ b k n o h x eh ex z =
-    let U = b .unread in
-    let N = b .unnamed in
-    all-clear T _
-    (zeros-of ks′ _ _ (sym k) (z .0), zeros-of ns′ _ _ (sym n) (z .1), zeros-of os′ _ _ (sym o) (z .2))
-    (zeros-of hs _ _ (sym h) eh, zeros-of xs _ _ (sym x) ex, own-zeros (T .order) 2048 (U .no-order), own-zeros (T .starts) 1025 (U .no-starts))
-    (own-zeros (T .loads) 2048 (U .no-loads), own-zeros (T .live) most (U .no-live), own-zeros (T .phi) most (U .no-phi), own-zeros (T .readers) most (U .no-readers))
-    (own-zeros (T .roots) most (N .no-roots), own-zeros (T .places) most (N .no-places), own-zeros (T .names) most (N .no-names), own-zeros (T .seen) most (N .no-seen))
-    (own-zeros (T .entry) most (N .no-entry), own-zeros (T .marks) most (b .unmarked .no-marks), own-zeros (T .labels) 320 (b .unmarked .no-labels))
+    → Blank n (tablesOf ks′ ns′ hs xs os′ (T .order) (T .starts) (T .loads) (T .live) (T .phi) (T .readers) (T .roots) (T .places) (T .names) (T .seen) (T .entry) (T .marks) (T .labels))
+wiped n T ks ns os ks′ ns′ hs xs os′ b k p o h x eh ex z =
+    let u = b .unvalued in
+    record {
+      unvalued = record {
+        no-keys = again (T .keys) ks ks′ n (u .no-keys) k (z .0);
+        no-numbers = again (T .numbers) ns ns′ n (u .no-numbers) p (z .1);
+        no-heads = again (T .heads) hs hs 1024 (u .no-heads) h eh;
+        no-next = again (T .next) xs xs n (u .no-next) x ex;
+        no-offs = again (T .offs) os os′ n (u .no-offs) o (z .2);
+      };
+      unread = b .unread;
+      unnamed = b .unnamed;
+      unmarked = b .unmarked;
+    }
+
+-- what the stages leave together, the keys emptied at last
+pub staged : (f : List ℕ) (T U : Tables) (ks : List ℕ) → Blank (width f) T → length ks ≡ length (T .keys) → U .keys ≡ replicate (length ks) 0
+    → Grounded f (U .numbers) → length (U .heads) ≡ length (T .heads) → U .heads ≡ replicate (length (U .heads)) 0
+    → length (U .next) ≡ length (T .next) → U .next ≡ replicate (length (U .next)) 0 → Stacked f (width f) (U .offs)
+    → Counted f (width f) (U .order) (U .starts) (U .loads) (U .live) (U .phi) (U .readers)
+    → Called f (width f) (U .roots) (U .places) (U .names) (U .seen) (U .entry) (U .marks) (U .labels) → Staged f (width f) U
+staged f T U ks b k ek g h eh x ex s d n = record {
+  no-keys = again (T .keys) ks (U .keys) (width f) (b .unvalued .no-keys) k ek;
+  numbers = g .numbers;
+  no-heads = again (T .heads) (U .heads) (U .heads) 1024 (b .unvalued .no-heads) h eh;
+  no-next = again (T .next) (U .next) (U .next) (width f) (b .unvalued .no-next) x ex;
+  stacked = s;
+  counted = d;
+  called = n;
+}
+
+-- ---- over the fronts
+-- a table of zeros is as long as the file has places, or longer
+pub front-fits : (f l : List ℕ) (p : Places) → p ≡ placesOf f → Sound f → l ≡ replicate most 0 → p .total ≤ length l
+front-fits f l p e S z = omega (arith, ap (λ (q : Places). q .total) e, S .few-places, long-zeros l most z)
+
+module _ (f : List ℕ) (S : Sound f) (T : Tables) (b : Blank most T) (p : Places) (e : p ≡ placesOf f) where
+  pub front-lent : Blank (width f) (fronts (p .total) T)
+  front-lent = subst (λ (q : Places). Blank (width f) (fronts (q .total) T)) (sym e) (lent-blank (width f) most (S .few-places) T b)
+
+  pub front-back : ((j : ℕ) → Fits w8 (getD f j 0)) → (r : ℕ) (U : Tables) → Analysed f (width f) r U → Analysed f most r (widened (p .total) T U)
+  front-back bytes r U a =
+      subst (λ (q : Places). Analysed f most r (widened (q .total) T U)) (sym e)
+      (record {
+        says = a .says;
+        refused = λ h. still-blank (width f) most (S .few-places) T b U (a .refused h);
+        passed = λ h. still-staged (width f) most (S .few-places) T b U f bytes (S .own) (omega arith) (a .passed h);
+      })
 
 -- ---- the refusals in order
 module _ (f o : List ℕ) (T : Tables) (z : T ≡ cleared T) (r : Bool) (e : r ≡ long o T) where
@@ -146,15 +210,15 @@ module _ (f o : List ℕ) (T : Tables) (z : T ≡ cleared T) (r : Bool) (e : r �
         tables = refused-held f n T T k z;
       }
 
-      pub passed : n ≡ 0 → checked edition1 f ≡ 0
-      passed k = sym number-is ∙ k
+      pub passes : n ≡ 0 → Sound f
+      passes k = sound f (sym number-is ∙ k)
 
-      pub through : (s : ℕ) (T′ : Tables) → n ≡ 0 → Analysed f s T T′ → Filled f s o o′ T T′
+      pub through : (s : ℕ) (U : Tables) → n ≡ 0 → Analysed f most s U → Filled f s o o′ T U
       unfolding answer judged
-      through s T′ k a = record {
-        says = rw (are-lent, eq-eqb (checked edition1 f) 0 (passed k)) (a .says);
+      through s U k a = record {
+        says = rw (are-lent, eq-eqb (checked edition1 f) 0 (sym number-is ∙ k)) (a .says);
         scratch = left-zeros;
-        tables = a .held;
+        tables = analysed-held f T U (blank o T are-lent z) s a;
       }
 
 -- ---- over tables that were emptied first

@@ -4,7 +4,7 @@ use mathlib.Core.Bool.{Bool, true}
 use mathlib.Core.List.{List}
 use Prim.Native.Nat.{ℕ, _≤_}
 use native.Mathlib.Omega.{arith}
-use lib.ListN.{length, replicate, length-replicate}
+use lib.ListN.{length, replicate}
 use Rattle.definition.specs.Edition.{Edition, edition1, blocks}
 use Rattle.definition.specs.Lists.{distinct}
 use Rattle.definition.specs.Contents.{size, text}
@@ -12,6 +12,7 @@ use Rattle.definition.specs.Shape.{owned}
 use Rattle.definition.specs.Meaning.{starts}
 use Rattle.definition.specs.Read.{read, allTrees}
 use Rattle.definition.specs.Offsets.{Known, look, offsets, refused7}
+use Rattle.zeros.proofs.Clearing.{own-zeros}
 use Rattle.values.specs.Keys.{placesOf, keyed}
 use Rattle.values.specs.Tables.{numbered, table}
 use Rattle.reads.specs.Orders.{Ordered}
@@ -20,76 +21,61 @@ use Rattle.marks.specs.Reading.{ReadRoots}
 use Rattle.marks.specs.Labels.{Labels}
 use Rattle.analyses.specs.Sound.{Sound}
 use Rattle.analyses.specs.Tables.{Unnumbered, Before, ReadAs, Shared, Spare, Named}
-use Rattle.tables.specs.Tables.{most}
-use Rattle.tables.specs.Stages.{Grounded, Rooted, Stacked, Stack, Unvalued, Unread, Unnamed, Unmarked, Marked, Called, Counted}
-
--- ---- zeros
-pub long-zeros : (l : List ℕ) (n : ℕ) → l ≡ replicate n 0 → length l ≡ n
-long-zeros l n e = ap length e ∙ length-replicate n 0
-
--- zeros of some length are zeros of any equal one
-pub zeros-of : (l : List ℕ) (n m : ℕ) → m ≡ n → l ≡ replicate n 0 → l ≡ replicate m 0
-zeros-of l n m p e = e ∙ ap (λ (k : ℕ). replicate k 0) (sym p)
-
-pub own-zeros : (l : List ℕ) (n : ℕ) → l ≡ replicate n 0 → l ≡ replicate (length l) 0
-own-zeros l n e = zeros-of l n (length l) (long-zeros l n e) e
-
--- a table emptied twice: l before, k behind its first writer, m at the end
-pub again : (l k m : List ℕ) (n : ℕ) → l ≡ replicate n 0 → length k ≡ length l → m ≡ replicate (length k) 0 → m ≡ replicate n 0
-again l k m n e p q = zeros-of m (length k) n (sym (p ∙ long-zeros l n e)) q
+use Rattle.tables.specs.Stages.{width, Grounded, Rooted, Stacked, Stack, Unvalued, Unread, Unnamed, Unmarked, Marked, Called, Counted}
+use Rattle.tables.proofs.Emptying.{long-zeros, zeros-of, again}
 
 -- ---- numbers
-pub unnumbered : (f ks ns hs xs os : List ℕ) → Sound f → Unvalued ks ns hs xs os → Unnumbered f ks ns hs xs
+pub unnumbered : (f ks ns hs xs os : List ℕ) → Sound f → Unvalued (width f) ks ns hs xs os → Unnumbered f ks ns hs xs
 unnumbered f ks ns hs xs os s u =
-    let k = long-zeros ks most (u .no-keys) in
-    let n = long-zeros ns most (u .no-numbers) in
+    let k = long-zeros ks (width f) (u .no-keys) in
+    let n = long-zeros ns (width f) (u .no-numbers) in
     let h = long-zeros hs 1024 (u .no-heads) in
-    let x = long-zeros xs most (u .no-next) in
+    let x = long-zeros xs (width f) (u .no-next) in
     record {
       own = s .own;
       registered = s .registered;
-      clear = own-zeros ks most (u .no-keys);
-      room = omega (arith, k, s .few-places);
-      few = omega (arith, k);
+      clear = own-zeros ks (width f) (u .no-keys);
+      room = omega (arith, k);
+      few = omega (arith, k, s .few-places);
       as-numbers = n ∙ sym k;
       as-next = x ∙ sym k;
       chains = omega (arith, h);
     }
 
-pub grounded : (f ks ns ns′ : List ℕ) → Sound f → ks ≡ replicate most 0 → ns ≡ replicate most 0 → ns′ ≡ numbered f (length ks) → length ns′ ≡ length ns → Grounded f ns′
+pub grounded : (f ks ns ns′ : List ℕ) → Sound f → ks ≡ replicate (width f) 0 → ns ≡ replicate (width f) 0 → ns′ ≡ numbered f (length ks) → length ns′ ≡ length ns → Grounded f ns′
 grounded f ks ns ns′ s k n e p = record {
   sound = s;
-  numbers = e ∙ ap (numbered f) (long-zeros ks most k);
-  long = p ∙ long-zeros ns most n;
+  numbers = e ∙ ap (numbered f) (long-zeros ks (width f) k);
+  long = p ∙ long-zeros ns (width f) n;
 }
 
-pub all-keys : (f ks ks′ : List ℕ) → ks ≡ replicate most 0 → ks′ ≡ keyed f (length ks) → ks′ ≡ keyed f most
-all-keys f ks ks′ k e = e ∙ ap (keyed f) (long-zeros ks most k)
+pub all-keys : (f ks ks′ : List ℕ) → ks ≡ replicate (width f) 0 → ks′ ≡ keyed f (length ks) → ks′ ≡ keyed f (width f)
+all-keys f ks ks′ k e = e ∙ ap (keyed f) (long-zeros ks (width f) k)
 
 module _ (f ns : List ℕ) (g : Grounded f ns) where
   few : placesOf f .total ≤ length ns
-  few = omega (arith, g .long, g .sound .few-places)
+  few = omega (arith, g .long)
 
   are-numbers : ns ≡ numbered f (length ns)
   are-numbers = g .numbers ∙ ap (numbered f) (sym (g .long))
 
-  as-numbers : (l : List ℕ) → l ≡ replicate most 0 → l ≡ replicate (length ns) 0
-  as-numbers l e = zeros-of l most (length ns) (g .long) e
+  as-numbers : (l : List ℕ) → l ≡ replicate (width f) 0 → l ≡ replicate (length ns) 0
+  as-numbers l e = zeros-of l (width f) (length ns) (g .long) e
 
   pub ground : Ground f ns (placesOf f)
   ground = record { counts = g .sound .own; where-all = refl; room = few; values = are-numbers }
 
-  as-keys : (ks : List ℕ) → ks ≡ keyed f most → ks ≡ keyed f (length ns)
+  as-keys : (ks : List ℕ) → ks ≡ keyed f (width f) → ks ≡ keyed f (length ns)
   as-keys ks e = e ∙ ap (keyed f) (sym (g .long))
 
   -- ---- stack offsets
-  pub unstacked : (ks os : List ℕ) → ks ≡ keyed f most → os ≡ replicate most 0
+  pub unstacked : (ks os : List ℕ) → ks ≡ keyed f (width f) → os ≡ replicate (width f) 0
       → Ground f ns (placesOf f) × ((ks ≡ keyed f (length ns)) × (os ≡ replicate (length ns) 0))
   unstacked ks os k o = (ground, (as-keys ks k, as-numbers os o))
 
   pub stacked : (r : Bool) (os : List ℕ)
       → ((E : Edition) → text E ≡ 8 → os ≡ table f (length ns) (look (offsets (read E f))))
-      → ((E : Edition) (k : List Known) → text E ≡ 8 → os ≡ table f (length ns) (look k) → r ≡ refused7 k (allTrees E f)) → Stack f r os
+      → ((E : Edition) (k : List Known) → text E ≡ 8 → os ≡ table f (length ns) (look k) → r ≡ refused7 k (allTrees E f)) → Stack f (width f) r os
   unfolding text edition1
   stacked r os o s = record {
     says = s edition1 (offsets (read edition1 f)) refl (o edition1 refl);
@@ -97,7 +83,7 @@ module _ (f ns : List ℕ) (g : Grounded f ns) where
   }
 
   -- ---- reads
-  pub unread : (order starts loads live phi readers : List ℕ) → Unread order starts loads live phi readers → Before f ns order starts loads live phi readers
+  pub unread : (order starts loads live phi readers : List ℕ) → Unread (width f) order starts loads live phi readers → Before f ns order starts loads live phi readers
   unread order starts loads live phi readers u =
       let a = long-zeros order 2048 (u .no-order) in
       let b = long-zeros starts 1025 (u .no-starts) in
@@ -118,14 +104,14 @@ module _ (f ns : List ℕ) (g : Grounded f ns) where
         exprs = omega (arith, d, g .sound .few-exprs);
       }
 
-  pub read-so : (order starts loads live phi readers : List ℕ) → ReadAs f (length ns) order starts loads live phi readers → ReadAs f most order starts loads live phi readers
+  pub read-so : (order starts loads live phi readers : List ℕ) → ReadAs f (length ns) order starts loads live phi readers → ReadAs f (width f) order starts loads live phi readers
   read-so order starts loads live phi readers r = subst (λ (n : ℕ). ReadAs f n order starts loads live phi readers) (g .long) r
 
   pub counted : (order starts loads live phi readers a b d live′ phi′ e order′ starts′ loads′ readers′ : List ℕ)
-      → Unread order starts loads live phi readers → ReadAs f (length ns) a b d live′ phi′ e
+      → Unread (width f) order starts loads live phi readers → ReadAs f (length ns) a b d live′ phi′ e
       → length a ≡ length order → length b ≡ length starts → length d ≡ length loads → length e ≡ length readers
       → (order′ ≡ replicate (length a) 0) × (starts′ ≡ replicate (length b) 0) × (loads′ ≡ replicate (length d) 0) × (readers′ ≡ replicate (length e) 0)
-      → Counted f order′ starts′ loads′ live′ phi′ readers′
+      → Counted f (width f) order′ starts′ loads′ live′ phi′ readers′
   counted order starts loads live phi readers a b d live′ phi′ e order′ starts′ loads′ readers′ u r p q s t z =
       let w = read-so a b d live′ phi′ e r in
       record {
@@ -134,36 +120,36 @@ module _ (f ns : List ℕ) (g : Grounded f ns) where
         no-loads = again loads d loads′ 2048 (u .no-loads) s (z .2);
         times = w .times;
         flows = w .flows;
-        no-readers = again readers e readers′ most (u .no-readers) t (z .3);
+        no-readers = again readers e readers′ (width f) (u .no-readers) t (z .3);
       }
 
   -- ---- variables
-  pub shared : (ks order starts loads live phi readers : List ℕ) → ks ≡ keyed f most → ReadAs f most order starts loads live phi readers
+  pub shared : (ks order starts loads live phi readers : List ℕ) → ks ≡ keyed f (width f) → ReadAs f (width f) order starts loads live phi readers
       → Shared f ks ns order starts loads live phi readers
   shared ks order starts loads live phi readers k r = record {
     own = g .sound .own;
     room = few;
-    few = omega (arith, g .long);
+    few = omega (arith, g .long, g .sound .few-places);
     keys = as-keys ks k;
     numbers = are-numbers;
     reading = subst (λ (n : ℕ). ReadAs f n order starts loads live phi readers) (sym (g .long)) r;
   }
 
-  pub spare : (roots places names seen entry : List ℕ) → Unnamed roots places names seen entry → Spare (length ns) roots places names seen entry
+  pub spare : (roots places names seen entry : List ℕ) → Unnamed (width f) roots places names seen entry → Spare (length ns) roots places names seen entry
   spare roots places names seen entry u = record {
-    as-roots = long-zeros roots most (u .no-roots) ∙ sym (g .long);
+    as-roots = long-zeros roots (width f) (u .no-roots) ∙ sym (g .long);
     no-places = as-numbers places (u .no-places);
     no-names = as-numbers names (u .no-names);
     no-seen = as-numbers seen (u .no-seen);
     no-entry = as-numbers entry (u .no-entry);
   }
 
-  pub named-so : (roots places names seen entry : List ℕ) → Named f (length ns) roots places names seen entry → Named f most roots places names seen entry
+  pub named-so : (roots places names seen entry : List ℕ) → Named f (length ns) roots places names seen entry → Named f (width f) roots places names seen entry
   named-so roots places names seen entry r = subst (λ (n : ℕ). Named f n roots places names seen entry) (g .long) r
 
   pub called : (roots places names seen entry roots′ places′ names′ seen′ e entry′ marks labels : List ℕ)
-      → Unnamed roots places names seen entry → Named f (length ns) roots′ places′ names′ seen′ e → length e ≡ length entry → Marked f marks labels
-      → entry′ ≡ replicate (length e) 0 → Called f roots′ places′ names′ seen′ entry′ marks labels
+      → Unnamed (width f) roots places names seen entry → Named f (length ns) roots′ places′ names′ seen′ e → length e ≡ length entry → Marked f (width f) marks labels
+      → entry′ ≡ replicate (length e) 0 → Called f (width f) roots′ places′ names′ seen′ entry′ marks labels
   called roots places names seen entry roots′ places′ names′ seen′ e entry′ marks labels u r p m z =
       let w = named-so roots′ places′ names′ seen′ e r in
       record {
@@ -171,26 +157,26 @@ module _ (f ns : List ℕ) (g : Grounded f ns) where
         placed = w .placed;
         named = w .named;
         no-seen = w .cleared;
-        no-entry = again entry e entry′ most (u .no-entry) p z;
+        no-entry = again entry e entry′ (width f) (u .no-entry) p z;
         marked = m;
       }
 
   -- ---- marks
-  pub unmarked : (marks labels order starts : List ℕ) → Unmarked marks labels → Ordered f (length order) (length starts) order starts
+  pub unmarked : (marks labels order starts : List ℕ) → Unmarked (width f) marks labels → Ordered f (length order) (length starts) order starts
       → Ground f ns (placesOf f) × (Ordered f (length order) (length starts) order starts × (marks ≡ replicate (length ns) 0))
   unmarked marks labels order starts u o = (ground, (o, as-numbers marks (u .no-marks)))
 
-  pub unlabelled : (marks labels : List ℕ) → Unmarked marks labels
+  pub unlabelled : (marks labels : List ℕ) → Unmarked (width f) marks labels
       → ((owned f ≡ true) × (distinct (starts f) ≡ true)) × ((labels ≡ replicate (length labels) 0) × (size f blocks ≤ length labels))
   unlabelled marks labels u =
       let l = long-zeros labels 320 (u .no-labels) in
       let b : size f blocks ≤ length labels = omega (arith, l, g .sound .few-blocks) in
       ((g .sound .own, g .sound .apart), (own-zeros labels 320 (u .no-labels), b))
 
-  pub marked : (os roots marks labels marks′ labels′ : List ℕ) → Stacked f os → Rooted f roots → Unmarked marks labels → ReadRoots f 8 (length ns) os roots marks′
-      → Labels f (length labels) labels′ → Marked f marks′ labels′
+  pub marked : (os roots marks labels marks′ labels′ : List ℕ) → Stacked f (width f) os → Rooted f (width f) roots → Unmarked (width f) marks labels → ReadRoots f 8 (length ns) os roots marks′
+      → Labels f (length labels) labels′ → Marked f (width f) marks′ labels′
   marked os roots marks labels marks′ labels′ o r u m l =
-      let m′ : ReadRoots f 8 most os roots marks′ = subst (λ (n : ℕ). ReadRoots f 8 n os roots marks′) (g .long) m in
+      let m′ : ReadRoots f 8 (width f) os roots marks′ = subst (λ (n : ℕ). ReadRoots f 8 n os roots marks′) (g .long) m in
       record {
         really = λ E p. m′ E (offsets (read E f)) p (o E p) (r E);
         labelled = subst (λ (n : ℕ). Labels f n labels′) (long-zeros labels 320 (u .no-labels)) l;

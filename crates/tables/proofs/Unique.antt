@@ -22,3 +22,7 @@ pub fill : (f : List ℕ) (r s : ℕ) (o u v : List ℕ) (T U W : Tables) → Fi
 fill f r s o u v T U W p q =
     let e : r ≡ s = p .says ∙ sym (q .says) in
     (e, p .scratch ∙ sym (q .scratch), held-once f s T U W (subst (λ (n : ℕ). Held f n T U) e (p .tables)) (q .tables))
+
+-- each table of `clear_four`, `clear_numbers` and `clear_all`
+pub cleared-once : (t u v : List ℕ) → u ≡ t → v ≡ t → u ≡ v
+cleared-once t u v p q = p ∙ sym q

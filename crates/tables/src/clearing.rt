@@ -1,35 +1,26 @@
 // Tables emptied: zeros, whatever stood there.
-use references::owned::clear;
+use zeros::clear_longs;
+use zeros::clear_words;
 ghost use mathlib.Core.Path.{_≡_};
 ghost use lib.ListN.{length, replicate};
 ghost use Rattle.tables.specs.Tables.{tablesOf, cleared};
-
-pub fn clear_long(table: &mut [u64])
-    ensures { λ _. ⌜ now (table .exit) ≡ replicate (length (now (table .entry))) 0 ⌝ }
-{
-    let mut i = 0;
-    while i < table.len() {
-        table[i] = 0;
-        i += 1;
-    }
-}
 
 pub fn clear_four(a: &mut [u32], b: &mut [u32], c: &mut [u32], d: &mut [u32])
     ensures { λ _. ⌜ (now (a .exit) ≡ replicate (length (now (a .entry))) 0) × (now (b .exit) ≡ replicate (length (now (b .entry))) 0)
         × (now (c .exit) ≡ replicate (length (now (c .entry))) 0) × (now (d .exit) ≡ replicate (length (now (d .entry))) 0) ⌝ }
 {
-    clear(a);
-    clear(b);
-    clear(c);
-    clear(d);
+    clear_words(a);
+    clear_words(b);
+    clear_words(c);
+    clear_words(d);
 }
 
 fn clear_three(a: &mut [u32], b: &mut [u32], c: &mut [u32])
     ensures { λ _. ⌜ (now (a .exit) ≡ replicate (length (now (a .entry))) 0) × (now (b .exit) ≡ replicate (length (now (b .entry))) 0) × (now (c .exit) ≡ replicate (length (now (c .entry))) 0) ⌝ }
 {
-    clear(a);
-    clear(b);
-    clear(c);
+    clear_words(a);
+    clear_words(b);
+    clear_words(c);
 }
 
 // What stands when check 7 refuses.
@@ -37,9 +28,9 @@ pub fn clear_numbers(keys: &mut [u64], numbers: &mut [u32], offs: &mut [u64])
     ensures { λ _. ⌜ (now (keys .exit) ≡ replicate (length (now (keys .entry))) 0) × (now (numbers .exit) ≡ replicate (length (now (numbers .entry))) 0)
         × (now (offs .exit) ≡ replicate (length (now (offs .entry))) 0) ⌝ }
 {
-    clear_long(keys);
-    clear(numbers);
-    clear_long(offs);
+    clear_longs(keys);
+    clear_words(numbers);
+    clear_longs(offs);
 }
 
 pub fn clear_all(

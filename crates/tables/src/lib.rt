@@ -1,14 +1,15 @@
 // All analyses of one file in one function over lent tables: refusals 1 to 7, or what lowering asks.
-mod clearing;
+pub mod clearing;
+mod front;
 mod lengths;
 mod steps;
 
 use crate::clearing::clear_all;
+use crate::front::over_fronts;
 use crate::lengths::are_long;
-use crate::steps::analyse;
 use file::check_file;
 use file::number_of;
-use references::owned::clear;
+use zeros::clear_words;
 ghost use mathlib.Core.Path.{_≡_};
 ghost use Rattle.tables.specs.Tables.{tablesOf, zeros, cleared};
 ghost use Rattle.tables.specs.Filled.{Filled};
@@ -70,7 +71,7 @@ fn judge(
     if n != 0 {
         return n;
     }
-    analyse(
+    over_fronts(
         keys,
         numbers,
         heads,
@@ -120,7 +121,7 @@ pub fn fill(
         (tablesOf (now (keys .entry)) (now (numbers .entry)) (now (heads .entry)) (now (next .entry)) (now (offs .entry)) (now (order .entry)) (now (starts .entry)) (now (loads .entry)) (now (live .entry)) (now (phi .entry)) (now (readers .entry)) (now (roots .entry)) (now (places .entry)) (now (names .entry)) (now (seen .entry)) (now (entry .entry)) (now (marks .entry)) (now (labels .entry)))
         (tablesOf (now (keys .exit)) (now (numbers .exit)) (now (heads .exit)) (now (next .exit)) (now (offs .exit)) (now (order .exit)) (now (starts .exit)) (now (loads .exit)) (now (live .exit)) (now (phi .exit)) (now (readers .exit)) (now (roots .exit)) (now (places .exit)) (now (names .exit)) (now (seen .exit)) (now (entry .exit)) (now (marks .exit)) (now (labels .exit))) ⌝ }
 {
-    clear(owners);
+    clear_words(owners);
     clear_all(
         keys,
         numbers,

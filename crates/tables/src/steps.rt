@@ -1,21 +1,21 @@
 // The stages of a sound file: stack offsets, then what is read, then variables and marks, each over the tables before it.
 use crate::clearing::clear_four;
-use crate::clearing::clear_long;
 use crate::clearing::clear_numbers;
 use analyses::number_values;
 use analyses::read_tables;
 use analyses::variables;
 use marks::roots::read_roots;
 use offsets::outside::refused7;
-use references::owned::clear;
+use zeros::clear_longs;
+use zeros::clear_words;
 ghost use mathlib.Core.Path.{_≡_};
 ghost use lib.ListN.{length, replicate};
 ghost use Rattle.values.specs.Keys.{keyed};
 ghost use Rattle.reads.specs.Orders.{Ordered};
 ghost use Rattle.analyses.specs.Sound.{Sound};
 ghost use Rattle.analyses.specs.Tables.{ReadAs};
-ghost use Rattle.tables.specs.Tables.{tablesOf, most};
-ghost use Rattle.tables.specs.Stages.{Grounded, Rooted, Stacked, Stack, Unread, Unnamed, Unmarked, Marked, Called, Counted, Blank, Analysed};
+ghost use Rattle.tables.specs.Tables.{tablesOf};
+ghost use Rattle.tables.specs.Stages.{width, Grounded, Rooted, Stacked, Stack, Unread, Unnamed, Unmarked, Marked, Called, Counted, Blank, Analysed};
 
 // The text's section of edition 1.
 const TEXT: u32 = 8;
@@ -23,9 +23,9 @@ const TEXT: u32 = 8;
 // The stack offsets, and whether a sum is outside.
 fn stack(offs: &mut [u64], f: &[u8], numbers: &[u32], keys: &[u64]) -> bool
     requires { ⌜ Grounded (now f) (now numbers) ⌝ }
-    requires { ⌜ now keys ≡ keyed (now f) most ⌝ }
-    requires { ⌜ now offs ≡ replicate most 0 ⌝ }
-    ensures { λ r. ⌜ Stack (now (f .entry)) r (now (offs .exit)) ⌝ }
+    requires { ⌜ now keys ≡ keyed (now f) (width (now f)) ⌝ }
+    requires { ⌜ now offs ≡ replicate (width (now f)) 0 ⌝ }
+    ensures { λ r. ⌜ Stack (now (f .entry)) (width (now (f .entry))) r (now (offs .exit)) ⌝ }
 {
     offsets::closure::offsets(offs, f, TEXT, numbers, keys);
     refused7(offs, f, TEXT, numbers)
@@ -43,11 +43,11 @@ fn mark(
     starts: &[u32],
 )
     requires { ⌜ Grounded (now f) (now numbers) ⌝ }
-    requires { ⌜ Stacked (now f) (now offs) ⌝ }
-    requires { ⌜ Rooted (now f) (now roots) ⌝ }
+    requires { ⌜ Stacked (now f) (width (now f)) (now offs) ⌝ }
+    requires { ⌜ Rooted (now f) (width (now f)) (now roots) ⌝ }
     requires { ⌜ Ordered (now f) (length (now order)) (length (now starts)) (now order) (now starts) ⌝ }
-    requires { ⌜ Unmarked (now marks) (now labels) ⌝ }
-    ensures { λ _. ⌜ Marked (now (f .entry)) (now (marks .exit)) (now (labels .exit)) ⌝ }
+    requires { ⌜ Unmarked (width (now f)) (now marks) (now labels) ⌝ }
+    ensures { λ _. ⌜ Marked (now (f .entry)) (width (now (f .entry))) (now (marks .exit)) (now (labels .exit)) ⌝ }
 {
     read_roots(marks, f, TEXT, numbers, offs, roots, order, starts);
     marks::labels::labels(labels, f);
@@ -74,12 +74,12 @@ fn name_all(
     readers: &[u32],
 )
     requires { ⌜ Grounded (now f) (now numbers) ⌝ }
-    requires { ⌜ now keys ≡ keyed (now f) most ⌝ }
-    requires { ⌜ Stacked (now f) (now offs) ⌝ }
-    requires { ⌜ ReadAs (now f) most (now order) (now starts) (now loads) (now live) (now phi) (now readers) ⌝ }
-    requires { ⌜ Unnamed (now roots) (now places) (now names) (now seen) (now entry) ⌝ }
-    requires { ⌜ Unmarked (now marks) (now labels) ⌝ }
-    ensures { λ _. ⌜ Called (now (f .entry)) (now (roots .exit)) (now (places .exit)) (now (names .exit)) (now (seen .exit)) (now (entry .exit)) (now (marks .exit)) (now (labels .exit)) ⌝ }
+    requires { ⌜ now keys ≡ keyed (now f) (width (now f)) ⌝ }
+    requires { ⌜ Stacked (now f) (width (now f)) (now offs) ⌝ }
+    requires { ⌜ ReadAs (now f) (width (now f)) (now order) (now starts) (now loads) (now live) (now phi) (now readers) ⌝ }
+    requires { ⌜ Unnamed (width (now f)) (now roots) (now places) (now names) (now seen) (now entry) ⌝ }
+    requires { ⌜ Unmarked (width (now f)) (now marks) (now labels) ⌝ }
+    ensures { λ _. ⌜ Called (now (f .entry)) (width (now (f .entry))) (now (roots .exit)) (now (places .exit)) (now (names .exit)) (now (seen .exit)) (now (entry .exit)) (now (marks .exit)) (now (labels .exit)) ⌝ }
 {
     variables(
         roots,
@@ -98,7 +98,7 @@ fn name_all(
         readers,
     );
     mark(marks, labels, f, numbers, offs, roots, order, starts);
-    clear(entry);
+    clear_words(entry);
 }
 
 // What is read, and what is made from it; tables that lowering does not ask for are emptied.
@@ -122,13 +122,13 @@ fn read_all(
     offs: &[u64],
 )
     requires { ⌜ Grounded (now f) (now numbers) ⌝ }
-    requires { ⌜ now keys ≡ keyed (now f) most ⌝ }
-    requires { ⌜ Stacked (now f) (now offs) ⌝ }
-    requires { ⌜ Unread (now order) (now starts) (now loads) (now live) (now phi) (now readers) ⌝ }
-    requires { ⌜ Unnamed (now roots) (now places) (now names) (now seen) (now entry) ⌝ }
-    requires { ⌜ Unmarked (now marks) (now labels) ⌝ }
-    ensures { λ _. ⌜ Counted (now (f .entry)) (now (order .exit)) (now (starts .exit)) (now (loads .exit)) (now (live .exit)) (now (phi .exit)) (now (readers .exit)) ⌝ }
-    ensures { λ _. ⌜ Called (now (f .entry)) (now (roots .exit)) (now (places .exit)) (now (names .exit)) (now (seen .exit)) (now (entry .exit)) (now (marks .exit)) (now (labels .exit)) ⌝ }
+    requires { ⌜ now keys ≡ keyed (now f) (width (now f)) ⌝ }
+    requires { ⌜ Stacked (now f) (width (now f)) (now offs) ⌝ }
+    requires { ⌜ Unread (width (now f)) (now order) (now starts) (now loads) (now live) (now phi) (now readers) ⌝ }
+    requires { ⌜ Unnamed (width (now f)) (now roots) (now places) (now names) (now seen) (now entry) ⌝ }
+    requires { ⌜ Unmarked (width (now f)) (now marks) (now labels) ⌝ }
+    ensures { λ _. ⌜ Counted (now (f .entry)) (width (now (f .entry))) (now (order .exit)) (now (starts .exit)) (now (loads .exit)) (now (live .exit)) (now (phi .exit)) (now (readers .exit)) ⌝ }
+    ensures { λ _. ⌜ Called (now (f .entry)) (width (now (f .entry))) (now (roots .exit)) (now (places .exit)) (now (names .exit)) (now (seen .exit)) (now (entry .exit)) (now (marks .exit)) (now (labels .exit)) ⌝ }
 {
     read_tables(order, starts, loads, live, phi, readers, f, numbers);
     name_all(
@@ -153,7 +153,7 @@ fn read_all(
     clear_four(order, starts, loads, readers);
 }
 
-// Check 7 and the tables of a sound file.
+// Check 7 and the tables of a sound file; a table by place has a number for each place of the file, and no more.
 pub fn analyse(
     keys: &mut [u64],
     numbers: &mut [u32],
@@ -176,9 +176,8 @@ pub fn analyse(
     f: &[u8],
 ) -> u32
     requires { ⌜ Sound (now f) ⌝ }
-    requires { ⌜ Blank (tablesOf (now keys) (now numbers) (now heads) (now next) (now offs) (now order) (now starts) (now loads) (now live) (now phi) (now readers) (now roots) (now places) (now names) (now seen) (now entry) (now marks) (now labels)) ⌝ }
-    ensures { λ r. ⌜ Analysed (now (f .entry)) r
-        (tablesOf (now (keys .entry)) (now (numbers .entry)) (now (heads .entry)) (now (next .entry)) (now (offs .entry)) (now (order .entry)) (now (starts .entry)) (now (loads .entry)) (now (live .entry)) (now (phi .entry)) (now (readers .entry)) (now (roots .entry)) (now (places .entry)) (now (names .entry)) (now (seen .entry)) (now (entry .entry)) (now (marks .entry)) (now (labels .entry)))
+    requires { ⌜ Blank (width (now f)) (tablesOf (now keys) (now numbers) (now heads) (now next) (now offs) (now order) (now starts) (now loads) (now live) (now phi) (now readers) (now roots) (now places) (now names) (now seen) (now entry) (now marks) (now labels)) ⌝ }
+    ensures { λ r. ⌜ Analysed (now (f .entry)) (width (now (f .entry))) r
         (tablesOf (now (keys .exit)) (now (numbers .exit)) (now (heads .exit)) (now (next .exit)) (now (offs .exit)) (now (order .exit)) (now (starts .exit)) (now (loads .exit)) (now (live .exit)) (now (phi .exit)) (now (readers .exit)) (now (roots .exit)) (now (places .exit)) (now (names .exit)) (now (seen .exit)) (now (entry .exit)) (now (marks .exit)) (now (labels .exit))) ⌝ }
 {
     number_values(keys, numbers, heads, next, f);
@@ -205,6 +204,6 @@ pub fn analyse(
         numbers,
         offs,
     );
-    clear_long(keys);
+    clear_longs(keys);
     0
 }
