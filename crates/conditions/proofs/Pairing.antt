@@ -35,6 +35,7 @@ use Rattle.flags.specs.declared.comparison.Setting.the-variants.{Nothing as Not
 use Rattle.flags.specs.declared.comparison.Shown.{Shown}
 use Rattle.flags.proofs.Printing.{code-view}
 use Rattle.room.specs.Room.{Room, emit, emitAll, seen}
+use Rattle.room.proofs.Laws.{one}
 use Rattle.render.specs.Gens.{genAt, rendered, used}
 use Rattle.render.specs.Told.{NamedAt}
 use Rattle.conditions.specs.declared.operands.Operand.{Operand}
@@ -43,9 +44,8 @@ use Rattle.conditions.specs.declared.operands.Pair.{Pair}
 use Rattle.conditions.specs.declared.operands.Found.{Found}
 use Rattle.conditions.specs.declared.operands.Found.the-variants.{Nothing, By}
 use Rattle.conditions.specs.Assigns.{Assigns, Alike}
-use Rattle.conditions.specs.Pairs.{operandExpr, viewPair, viewFound, Fit, Fits, FitsFound, Set, assignedTokens, operandTokens, comparedTokens}
+use Rattle.conditions.specs.Pairs.{operandExpr, viewPair, viewFound, Fit, Fits, FitsFound, Set, assignedTokens, operandTokens, foundTokens}
 use Rattle.conditions.specs.Printed.{viewSide, viewSign, viewShown}
-use Rattle.conditions.proofs.Sides.{one-put}
 
 -- ---- what was found, by the setting s
 module _ (f : List ℕ) (t first count : ℕ) (s : Setting)
@@ -147,18 +147,18 @@ module _ (E : Edition) (f : List ℕ) (p : Pair) (cc : List ℕ) (k : Code) (c :
   tokens o = conditionOf (genAt E f (size f statements)) cc (some (viewPair E f p)) o
 
   pub compared-there : c .there ≡ true → seen r ≡ seen (emitAll r₀ (shownTokens (operandTokens E f (p .left)) (operandTokens E f (p .right)) (viewShown c)))
-      → seen r ≡ seen (emitAll r₀ (comparedTokens E f p cc))
-  unfolding comparedTokens conditionOf operandTokens viewPair
+      → seen r ≡ seen (emitAll r₀ (foundTokens E f (By p) cc))
+  unfolding foundTokens viewFound conditionOf operandTokens viewPair
   compared-there h e = e ∙ ap (λ (o : Option D.Shown). seen (emitAll r₀ (tokens o))) (sym (shown-there c (shownOf (p .by) k) says h) ∙ asked)
 
-  pub compared-not : c .there ≡ false → r ≡ emit r₀ (keyword (txt "__flags_" ++ cc)) → seen r ≡ seen (emitAll r₀ (comparedTokens E f p cc))
-  unfolding comparedTokens conditionOf
+  pub compared-not : c .there ≡ false → r ≡ emit r₀ (keyword (txt "__flags_" ++ cc)) → seen r ≡ seen (emitAll r₀ (foundTokens E f (By p) cc))
+  unfolding foundTokens viewFound conditionOf
   compared-not h e =
-      one-put r r₀ (keyword (txt "__flags_" ++ cc)) e
+      one r r₀ (keyword (txt "__flags_" ++ cc)) e
       ∙ ap (λ (o : Option D.Shown). seen (emitAll r₀ (tokens o))) (sym (shown-not c (shownOf (p .by) k) says h) ∙ asked)
 
 -- ---- the condition, by what was found; o is where the text begins
-module _ (f : List ℕ) (t first count start len o : ℕ) (x : Found) (set : Set f t first count x) (begins : o ≡ offset f t) (E : Edition) (section : text E ≡ t) (r r₀ : Room) where
+module _ (f : List ℕ) (t start len o : ℕ) (x : Found) (begins : o ≡ offset f t) (E : Edition) (section : text E ≡ t) (r r₀ : Room) where
   abbrev cc : List ℕ
   cc = part f (o + start) len
 
@@ -166,24 +166,23 @@ module _ (f : List ℕ) (t first count start len o : ℕ) (x : Found) (set : Set
   unfolding textAt
   text-is = rw (begins, ← section)
 
-  abbrev Written : Type 0
-  Written = seen r ≡ seen (emitAll r₀ (condition (genAt E f (size f statements)) (map (stmtAt E f (allTrees E f)) (range first count)) (textAt E f start len)))
+  written : (y : Found) → x ≡ y → seen r ≡ seen (emitAll r₀ (foundTokens E f y cc)) → seen r ≡ seen (emitAll r₀ (foundTokens E f x (textAt E f start len)))
+  written y h e = e ∙ ap₂ (λ (l : List ℕ) (z : Found). seen (emitAll r₀ (foundTokens E f z l))) text-is (sym h)
 
-  abbrev tokensOf : List ℕ → Option D.Setting → List Token
-  tokensOf l s = conditionOf (genAt E f (size f statements)) l s (comparison s (codeOf l))
+  pub by-nothing : x ≡ Nothing → r ≡ emit r₀ (keyword (txt "__flags_" ++ cc)) → seen r ≡ seen (emitAll r₀ (foundTokens E f x (textAt E f start len)))
+  unfolding foundTokens viewFound conditionOf
+  by-nothing h e = written Nothing h (one r r₀ (keyword (txt "__flags_" ++ cc)) e)
 
-  written : (s : Option D.Setting) → viewFound E f x ≡ s → seen r ≡ seen (emitAll r₀ (tokensOf cc s)) → Written
-  unfolding condition
-  written s h e = e ∙ ap₂ (λ (l : List ℕ) (z : Option D.Setting). seen (emitAll r₀ (tokensOf l z))) text-is (sym h ∙ set .says E section)
+  pub by-pair : (p : Pair) → x ≡ By p → seen r ≡ seen (emitAll r₀ (foundTokens E f (By p) cc))
+      → seen r ≡ seen (emitAll r₀ (foundTokens E f x (textAt E f start len)))
+  by-pair p h e = written (By p) h e
 
-  pub by-nothing : x ≡ Nothing → r ≡ emit r₀ (keyword (txt "__flags_" ++ cc)) → Written
-  unfolding viewFound conditionOf
-  by-nothing h e = written none (ap (viewFound E f) h) (one-put r r₀ (keyword (txt "__flags_" ++ cc)) e)
-
-  pub by-pair : (p : Pair) → x ≡ By p → seen r ≡ seen (emitAll r₀ (comparedTokens E f p cc)) → Written
-  unfolding viewFound comparedTokens
-  by-pair p h e = written (some (viewPair E f p)) (ap (viewFound E f) h) e
-
-pub pair-fits : (f : List ℕ) (t first count : ℕ) (x : Found) (p : Pair) → Set f t first count x → x ≡ By p → Fits f p
+pub pair-fits : (f : List ℕ) (x : Found) (p : Pair) → FitsFound f x → x ≡ By p → Fits f p
 unfolding FitsFound
-pair-fits f t first count x p s e = subst (FitsFound f) e (s .fits)
+pair-fits f x p s e = subst (FitsFound f) e s
+
+-- what the statements set the flags by makes the definition's condition
+pub found-is : (f : List ℕ) (t first count : ℕ) (x : Found) → Set f t first count x → (E : Edition) → text E ≡ t → (cc : List ℕ)
+    → foundTokens E f x cc ≡ condition (genAt E f (size f statements)) (map (stmtAt E f (allTrees E f)) (range first count)) cc
+unfolding foundTokens condition
+found-is f t first count x s E e cc = ap (λ (o : Option D.Setting). conditionOf (genAt E f (size f statements)) cc o (comparison o (codeOf cc))) (s .says E e)

@@ -11,11 +11,8 @@ use Rattle.flags.specs.declared.comparison.Side.{Side}
 use Rattle.flags.specs.declared.comparison.Side.the-variants.{Left, Right, Difference, Both, Nought}
 use Rattle.flags.specs.declared.comparison.Shown.{Shown}
 use Rattle.room.specs.Room.{Room, emit, emitAll, seen}
-use Rattle.room.proofs.Laws.{next, more, done}
+use Rattle.room.proofs.Laws.{next, more, done, one}
 use Rattle.conditions.specs.Printed.{viewSide, viewSign, viewShown, between}
-
-pub one-put : (r r₀ : Room) (p : Token) → r ≡ emit r₀ p → seen r ≡ seen (emitAll r₀ (p ∷ []))
-one-put r r₀ p e = next r r₀ p [] e (done r)
 
 pub between-put : (r r₄ r₃ r₂ r₁ r₀ : Room) (x y : List Token) (op : List ℕ)
     → r₁ ≡ emit r₀ (punct (txt "(")) → seen r₂ ≡ seen (emitAll r₁ x) → r₃ ≡ emit r₂ (punct op) → seen r₄ ≡ seen (emitAll r₃ y)
@@ -26,7 +23,7 @@ between-put r r₄ r₃ r₂ r₁ r₀ x y op a b c d e =
     next r r₀ (punct (txt "(")) (x ++ (punct op ∷ (y ++ last))) a
     (more r r₂ r₁ x (punct op ∷ (y ++ last)) b
     (next r r₂ (punct op) (y ++ last) c
-    (more r r₄ r₃ y last d (one-put r r₄ (punct (txt ")")) e))))
+    (more r r₄ r₃ y last d (one r r₄ (punct (txt ")")) e))))
 
 -- ---- a side, by what it is
 module _ (r r₀ : Room) (x y : List Token) (s : Side) where
@@ -51,7 +48,7 @@ module _ (r r₀ : Room) (x y : List Token) (s : Side) where
 
   pub nought-put : s ≡ Nought → r ≡ emit r₀ (punct (txt "0")) → Written
   unfolding sideTokens viewSide
-  nought-put h e = rw h (one-put r r₀ (punct (txt "0")) e)
+  nought-put h e = rw h (one r r₀ (punct (txt "0")) e)
 
 -- another sign, which it is
 pub sign-put : (r r₀ : Room) (s k : Sign) → s ≡ k → r ≡ emit r₀ (punct (signText (viewSign k))) → r ≡ emit r₀ (punct (signText (viewSign s)))
@@ -60,7 +57,7 @@ sign-put r r₀ s k h e = rw h e
 -- ---- the whole
 pub unsigned-put : (r r₀ : Room) (u : Bool) → u ≡ true → r ≡ emit r₀ (keyword (txt "(unsigned)")) → seen r ≡ seen (emitAll r₀ (unsignedTokens u))
 unfolding unsignedTokens
-unsigned-put r r₀ u h e = rw h (one-put r r₀ (keyword (txt "(unsigned)")) e)
+unsigned-put r r₀ u h e = rw h (one r r₀ (keyword (txt "(unsigned)")) e)
 
 pub none-put : (r : Room) (u : Bool) → u ≡ false → seen r ≡ seen (emitAll r (unsignedTokens u))
 unfolding unsignedTokens

@@ -60,6 +60,6 @@ assignedTokens E f i = used E f (size f statements) false (value (stmtField f i 
 unfoldable pub operandTokens : Edition → List ℕ → Operand → List Token
 operandTokens E f x = expr (genAt E f (size f statements)) false (operandExpr E f x)
 
--- the operands p and the code's text
-unfoldable pub comparedTokens : Edition → List ℕ → Pair → List ℕ → List Token
-comparedTokens E f p cc = let s = some (viewPair E f p) in conditionOf (genAt E f (size f statements)) cc s (comparison s (codeOf cc))
+-- what was found and the code's text
+unfoldable pub foundTokens : Edition → List ℕ → Found → List ℕ → List Token
+foundTokens E f x cc = let s = viewFound E f x in conditionOf (genAt E f (size f statements)) cc s (comparison s (codeOf cc))

@@ -1,7 +1,6 @@
 // The condition of a branch: the comparison that its code makes of what set the flags, or the flags by their name.
 use crate::operands::Found;
 use crate::operands::Pair;
-use crate::operands::operands;
 use crate::side::put_shown;
 use flags::codes::code_of;
 use flags::shown::shown;
@@ -10,18 +9,13 @@ use room::from_file::put_flags;
 use room::out::Out;
 use values::places::Places;
 ghost use mathlib.Core.Path.{_≡_};
-ghost use mathlib.Core.List.{map};
-ghost use Prim.Native.Nat.{_+_, _≤_};
-ghost use Rattle.definition.specs.Edition.{Edition, statements};
-ghost use Rattle.definition.specs.Lists.{range};
+ghost use Rattle.definition.specs.Edition.{Edition};
 ghost use Rattle.definition.specs.Words.{part};
-ghost use Rattle.definition.specs.Contents.{size, text as textOf, textAt};
-ghost use Rattle.definition.specs.Read.{allTrees, stmtAt};
-ghost use Rattle.definition.specs.Condition.{condition};
+ghost use Rattle.definition.specs.Contents.{text as textOf, textAt};
 ghost use Rattle.room.specs.Room.{roomOf, emitAll, seen};
-ghost use Rattle.render.specs.Gens.{genAt};
 ghost use Rattle.render.specs.Told.{Told};
-ghost use Rattle.conditions.specs.Pairs.{comparedTokens, Fits};
+ghost use Rattle.conditions.specs.declared.operands.Found.the-variants.{By};
+ghost use Rattle.conditions.specs.Pairs.{foundTokens, Fits, FitsFound};
 
 // By the operands p and the code that n bytes of the file from `at` on spell.
 fn put_compared(
@@ -42,7 +36,7 @@ fn put_compared(
     requires { ⌜ Told (now f) t places (now numbers) (now offs) (now placed) (now names) ⌝ }
     requires { ⌜ Fits (now f) p ⌝ }
     ensures { λ r. ⌜ ((E : Edition) → textOf E ≡ t → seen (roomOf (now (tokens .exit)) (now (text .exit)) r)
-        ≡ seen (emitAll (roomOf (now (tokens .entry)) (now (text .entry)) out) (comparedTokens E (now (f .entry)) p (part (now (f .entry)) at n)))) ⌝ }
+        ≡ seen (emitAll (roomOf (now (tokens .entry)) (now (text .entry)) out) (foundTokens E (now (f .entry)) (By p) (part (now (f .entry)) at n)))) ⌝ }
 {
     let by = p.by;
     let c = shown(by, code_of(f, at, n));
@@ -65,7 +59,7 @@ fn put_compared(
     put_flags(tokens, text, out, f, at, n)
 }
 
-// Of the block's `count` statements from `first` on; the code is spelled by `len` bytes of section t from `start` on.
+// By what set the flags of the block; the code is spelled by `len` bytes of section t from `start` on.
 pub fn put_condition(
     tokens: &mut [u64],
     text: &mut [u8],
@@ -77,20 +71,18 @@ pub fn put_condition(
     offs: &[u64],
     placed: &[u32],
     names: &[u32],
-    first: u32,
-    count: u32,
+    setter: Found,
     start: u32,
     len: u32,
 ) -> Out
     requires { ⌜ Told (now f) t places (now numbers) (now offs) (now placed) (now names) ⌝ }
-    requires { ⌜ first + count ≤ size (now f) statements ⌝ }
+    requires { ⌜ FitsFound (now f) setter ⌝ }
     ensures { λ r. ⌜ ((E : Edition) → textOf E ≡ t → seen (roomOf (now (tokens .exit)) (now (text .exit)) r)
-        ≡ seen (emitAll (roomOf (now (tokens .entry)) (now (text .entry)) out)
-        (condition (genAt E (now (f .entry)) (size (now (f .entry)) statements)) (map (stmtAt E (now (f .entry)) (allTrees E (now (f .entry)))) (range first count)) (textAt E (now (f .entry)) start len)))) ⌝ }
+        ≡ seen (emitAll (roomOf (now (tokens .entry)) (now (text .entry)) out) (foundTokens E (now (f .entry)) setter (textAt E (now (f .entry)) start len)))) ⌝ }
 {
     let at = offset_of(f, t) as usize + start as usize;
     let n = len as usize;
-    let Found::By(p) = operands(f, t, first, count) else {
+    let Found::By(p) = setter else {
         return put_flags(tokens, text, out, f, at, n);
     };
     put_compared(

@@ -1,5 +1,5 @@
 // The condition that a branch tests, as tokens.
 mod assigned;
 pub mod condition;
-mod operands;
+pub mod operands;
 mod side;

@@ -1,25 +1,27 @@
 -- The last marked statement, by a walk from the first on.
 use mathlib.Core.Path.{_≡_, sym, ap, ap₂, _∙_}
-use mathlib.Core.Bool.{cond}
+use mathlib.Core.Bool.{Bool, true, false, cond}
 use mathlib.Core.Option.{Option, none, some}
 use mathlib.Core.List.{List}
-use Prim.Native.Nat.{ℕ, suc, _+_, _-_, _/_, _%_, _≤_, _<_}
+use Prim.Native.Nat.{ℕ, suc, _+_, _-_, _≤_, _<_}
 use native.Mathlib.Omega.{arith}
-use borrow.Author.Tests.{eq-eqb, ne-eqb}
 use Rattle.definition.specs.Lists.{range}
-use Rattle.definition.specs.Contents.{stmtWord}
 use Rattle.definition.specs.Read.{marked}
+use Rattle.statements.specs.Statement.{stmtRecord, markOf}
+use Rattle.statements.specs.declared.statement.Stmt.{Stmt}
 use Rattle.flags.specs.Marked.{lastMarked}
 
--- ---- the mark, whose word w was read
-module _ (f : List ℕ) (i w : ℕ) (k : Option ℕ) (word : w ≡ stmtWord f i 2) where
-  pub is-marked : w / 2 % 2 ≡ 1 → some i ≡ cond (marked f i 2) (some i) k
-  unfolding marked
-  is-marked e = rw (← word, eq-eqb (w / 2 % 2) 1 e)
+-- ---- the mark, read off the record
+module _ (f : List ℕ) (i first : ℕ) (s : Stmt) (is : s ≡ stmtRecord f i first) (b : Bool) (says : b ≡ markOf (s .marks) 2) (k : Option ℕ) where
+  mark-read : b ≡ marked f i 2
+  unfolding marked markOf stmtRecord
+  mark-read = says ∙ ap (λ (x : Stmt). markOf (x .marks) 2) is
 
-  pub not-marked : (w / 2 % 2 ≡ 1 → ⊥) → k ≡ cond (marked f i 2) (some i) k
-  unfolding marked
-  not-marked h = rw (← word, ne-eqb (w / 2 % 2) 1 h)
+  pub is-marked : b ≡ true → some i ≡ cond (marked f i 2) (some i) k
+  is-marked h = rw (← mark-read, h)
+
+  pub not-marked : b ≡ false → k ≡ cond (marked f i 2) (some i) k
+  not-marked h = rw (← mark-read, h)
 
 -- ---- the walk
 module _ (f : List ℕ) (first count : ℕ) where

@@ -2,12 +2,10 @@
 -- that is not below its parent, or an expression that is not there, counts as an Opaque without text.
 use mathlib.Core.Path.{_≡_, refl, sym, ap, ap₂, _∙_}
 use mathlib.Core.Bool.{Bool, true, false, cond, _&&_, and-true, and-assoc}
-use mathlib.Core.List.{List, [], _∷_}
-use Prim.Native.Nat.{ℕ, zero, suc, _≤_, _<_}
+use mathlib.Core.List.{List}
+use Prim.Native.Nat.{ℕ, _≤_, _<_}
 use native.Mathlib.Omega.{arith}
 use lib.Dec.{eqb, ltb}
-use lib.ListN.{length, length-append, List·getD-append, List·getD-eq-default}
-use lib.Seq.{getD-at}
 use borrow.Author.Tests.{ltb-true, ltb-false, lt-ltb, le-ltb, eq-eqb, ne-eqb}
 use Rattle.definition.specs.Edition.{Edition, expressions}
 use Rattle.definition.specs.Words.{part}
@@ -15,10 +13,10 @@ use Rattle.definition.specs.Texts.{same}
 use Rattle.definition.specs.Contents.{size, text, textAt}
 use Rattle.definition.specs.Values.{eqv}
 use Rattle.definition.specs.Ssa.{Expr, eqe}
-use Rattle.definition.specs.Ssa.Expr.{Opaque as DOpaque}
-use Rattle.definition.specs.Read.{treeAt, tree, trees, allTrees}
+use Rattle.definition.specs.Read.{treeAt, trees, allTrees}
 use Rattle.definition.proofs.Bools.{by-test}
 use Rattle.definition.proofs.TextLaws.{same-refl}
+use Rattle.records.proofs.Trees.{tree-lower, tree-past}
 use Rattle.ssa.specs.declared.node.Node.{Node}
 use Rattle.ssa.specs.declared.node.Node.the-variants.{Const, Use, Bin, Un, Load, Opaque}
 use Rattle.ssa.specs.Node.{nodeRecord}
@@ -69,29 +67,12 @@ module _ (f : List ℕ) (t : ℕ) (x y : Head) where
 
 -- ---- trees and records
 module _ (E : Edition) (f : List ℕ) where
-  trees-length : (n : ℕ) → length (trees E f n) ≡ n
-  unfolding trees
-  trees-length zero = refl
-  trees-length (suc n) = omega (arith, length-append (trees E f n) (tree E f (trees E f n) n ∷ []), trees-length n)
-
-  tree-lower : (n i : ℕ) → i < n → treeAt (trees E f n) i ≡ tree E f (trees E f i) i
-  unfolding trees
-  tree-lower zero i h = absurd (omega arith)
-  tree-lower (suc n) i h =
-      let t = trees E f n in
-      let l = trees-length n in
-      let below = tree-lower n i in
-      by-test (ltb i n)
-      (λ e. let b = ltb-true i n e in List·getD-append t (tree E f t n ∷ []) (DOpaque []) i (omega arith) ∙ below b)
-      (λ e. let q : i ≡ n = omega (arith, ltb-false i n e) in
-      getD-at t (tree E f t n) [] (DOpaque []) i (l ∙ sym q) ∙ ap (λ (m : ℕ). tree E f (trees E f m) m) (sym q))
-
   tree-seen : (m a : ℕ) → treeAt (trees E f m) a ≡ viewNode E f (trees E f a) (nodeBelow f m a)
   unfolding nodeBelow viewNode noText textAt part
   tree-seen m a =
       by-test (ltb a m)
-      (λ e. rw e (tree-lower m a (ltb-true a m e) ∙ sym (node-view E f (trees E f a) a)))
-      (λ e. rw e (List·getD-eq-default (trees E f m) (DOpaque []) (omega (arith, trees-length m, ltb-false a m e))))
+      (λ e. rw e (tree-lower E f m a (ltb-true a m e) ∙ sym (node-view E f (trees E f a) a)))
+      (λ e. rw e (tree-past E f m a (ltb-false a m e)))
 
 -- ---- a node's own test, beside what it adds to `eqe`
 texts-none : (f : List ℕ) (t : ℕ) → same (textIn f t noText) (textIn f t noText) ≡ true

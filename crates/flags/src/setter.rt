@@ -4,11 +4,9 @@ use crate::comparison::Setter;
 use crate::comparison::Setting;
 use crate::same::same_expr;
 use meaning::value::RSP;
-use records::contents::stmt_word;
-use records::owners::ASSIGN;
-use records::owners::FLAGS;
-use records::owners::stmt_field;
-use records::owners::stmt_kind;
+use statements::statement::Flags;
+use statements::statement::Kind;
+use statements::statement::stmt_at;
 ghost use mathlib.Core.Path.{_≡_};
 ghost use mathlib.Core.Bool.{cond};
 ghost use mathlib.Core.Option.{none, some};
@@ -19,8 +17,10 @@ ghost use Rattle.definition.specs.Lists.{range};
 ghost use Rattle.definition.specs.Contents.{size, text};
 ghost use Rattle.definition.specs.Read.{allTrees, kindAt, marked, stmtAt};
 ghost use Rattle.definition.specs.Condition.{settingOf, lastSetter, setterOf};
+ghost use Rattle.statements.specs.View.{viewKind};
+ghost use Rattle.statements.specs.declared.statement.Kind.the-variants.{Flags as FlagsKind};
 ghost use Rattle.flags.specs.Views.{viewSetting};
-ghost use Rattle.flags.specs.Marked.{viewLast, lastMarked, flagsKind};
+ghost use Rattle.flags.specs.Marked.{viewLast, lastMarked};
 
 // The number of a statement, if there is one.
 struct Last {
@@ -32,7 +32,8 @@ struct Last {
 fn later(f: &[u8], i: u32, last: Last) -> Last
     ensures { λ r. ⌜ viewLast r ≡ cond (marked (now (f .entry)) i 2) (some i) (viewLast last) ⌝ }
 {
-    if stmt_word(f, i, 2) / 2 % 2 == 1 {
+    let s = stmt_at(f, i, 0);
+    if s.flags() {
         return Last { there: true, at: i };
     }
     last
@@ -56,12 +57,12 @@ fn last_marked(f: &[u8], first: u32, count: u32) -> Last
 }
 
 // A CMP, a TEST, or a TEST of an operand and itself.
-fn compared(f: &[u8], t: u32, i: u32) -> Setting
-    ensures { λ r. ⌜ ((E : Edition) → text E ≡ t → viewSetting E (now (f .entry)) r ≡ settingOf (flagsKind E (now (f .entry)) i)) ⌝ }
+fn compared(f: &[u8], t: u32, c: Flags) -> Setting
+    ensures { λ r. ⌜ ((E : Edition) → text E ≡ t → viewSetting E (now (f .entry)) r ≡ settingOf (viewKind E (now (f .entry)) (allTrees E (now (f .entry))) (FlagsKind c))) ⌝ }
 {
-    let left = stmt_field(f, i, 1);
-    let right = stmt_field(f, i, 2);
-    if stmt_field(f, i, 0) != 1 {
+    let left = c.left;
+    let right = c.right;
+    if !c.test {
         return Setting::Operands(Operands {
             by: Setter::Cmp,
             left,
@@ -82,22 +83,23 @@ fn compared(f: &[u8], t: u32, i: u32) -> Setting
     })
 }
 
-// What statement i sets the flags by.
+// What statement i sets the flags by. List items do not matter to it.
 fn setting_at(f: &[u8], t: u32, i: u32) -> Setting
     ensures { λ r. ⌜ ((E : Edition) → text E ≡ t
         → viewSetting E (now (f .entry)) r ≡ settingOf (kindAt E (now (f .entry)) (allTrees E (now (f .entry))) i)) ⌝ }
 {
-    let k = stmt_kind(f, i);
-    if k == FLAGS {
-        return compared(f, t, i);
+    let s = stmt_at(f, i, 0);
+    let kind = s.kind;
+    match kind {
+        Kind::Flags(c) => compared(f, t, c),
+        Kind::Assign(a) => {
+            if a.value.reg == RSP {
+                return Setting::Nothing;
+            }
+            Setting::Result(i)
+        }
+        _ => Setting::Nothing,
     }
-    if k != ASSIGN {
-        return Setting::Nothing;
-    }
-    if stmt_field(f, i, 0) == RSP {
-        return Setting::Nothing;
-    }
-    Setting::Result(i)
 }
 
 // What the last marked of the block's `count` statements from `first` on set the flags by.

@@ -1,21 +1,19 @@
 -- A Branch as the definition lowers it: its record read off the fields and list items, each arm its own lines; the first of a run of list items are a
 -- shorter run.
 use mathlib.Core.Path.{_≡_, refl, sym, ap, ap₂, _∙_}
-use mathlib.Core.Bool.{Bool, true, false, cond, false≢true, true≢false}
+use mathlib.Core.Bool.{Bool, true, false, cond}
 use mathlib.Core.Option.{Option, none, some}
 use mathlib.Core.List.{List, [], _∷_, _++_, map}
-use Prim.Native.Nat.{ℕ, zero, suc, _+_, _≤_, _<_}
+use Prim.Native.Nat.{ℕ, _+_, _<_}
 use native.Mathlib.Omega.{arith}
-use lib.Dec.{eqb, ltb}
 use lib.ListN.{take, getD}
-use lib.Seq.{take-all}
 use mir.Syntax.{w8}
 use mir.Val.{Fits}
-use borrow.Author.Tests.{eq-eqb, ne-eqb, lt-ltb, le-ltb, ltb-true, ltb-false}
+use borrow.Author.Tests.{eq-eqb, ne-eqb}
 use Rattle.definition.specs.Edition.{Edition, statements}
 use Rattle.definition.specs.Texts.{txt, begins}
-use Rattle.definition.specs.Lists.{among, range, orElse, given, has}
-use Rattle.definition.specs.Contents.{size, blockWord, blockLong, stmtLong, itemWord, textAt}
+use Rattle.definition.specs.Lists.{among, orElse}
+use Rattle.definition.specs.Contents.{size, blockWord, blockLong, stmtLong, textAt}
 use Rattle.definition.specs.Owners.{stmtKind, stmtField, exprItems}
 use Rattle.definition.specs.References.{itemExprs}
 use Rattle.definition.specs.Ssa.{Expr, Stmt}
@@ -25,41 +23,29 @@ use Rattle.definition.specs.Lookup.{order, isNext}
 use Rattle.definition.specs.Tokens.{Line, symbol, address, punct}
 use Rattle.definition.specs.Lower.{gotoTokens, countSet, fallLine, branchIf, tailCall, leave, branchTo, branch, lowerKind}
 use Rattle.definition.specs.Blocks.{lowering}
-use Rattle.definition.proofs.Bools.{by-test}
-use Rattle.records.proofs.Editions.{length-range}
 use Rattle.records.proofs.Items.{items-few, exprs-fit}
 use Rattle.records.proofs.Laws.{branch-exprs}
+use Rattle.ssa.specs.Block.{blockRecord}
+use Rattle.ssa.specs.View.{viewDestination}
+use Rattle.ssa.specs.declared.block.Block.{Block}
+use Rattle.ssa.specs.declared.parts.Destination.{Destination}
 use Rattle.inline.specs.Placing.{behind}
 use Rattle.marks.specs.Labels.{startAt, nextAt}
 use Rattle.room.specs.Room.{Sheet, writeAll, seenSheet}
 use Rattle.room.proofs.Laws.{written-none}
 use Rattle.lowering.specs.Lowered.{loweringOf, lowered, hereAt}
-use Rattle.jumps.specs.Given.{BranchAt, BlockAt}
-use Rattle.lowering.specs.Commas.{treesOf, listed}
-use Rattle.jumps.specs.Written.{usesOf, nameOf, stmtLine, toBlock, computedTokens, conditionOf, ifTokens, aimOf, testTokens, fallTo, fallOf, ifLines, least, nameTokens, callTokens, returnTokens, endTokens, tailBy, tailOf, leaveOf, jumpOf, plainTo, goalOf, plainOf}
+use Rattle.jumps.specs.Given.{BranchAt}
+use Rattle.lowering.specs.Commas.{least}
+use Rattle.jumps.specs.Written.{usesOf, nameOf, stmtLine, toBlock, computedTokens, conditionOf, ifTokens, aimOf, testTokens, fallTo, fallOf, ifLines, nameTokens, callTokens, returnTokens, endTokens, tailBy, tailOf, leaveOf, jumpOf, plainTo, goalOf, plainOf}
+use Rattle.lowering.proofs.Commas.{least-le, take-listed}
 use Rattle.lowering.proofs.Gen.{lowering-returns, lowering-args}
 use Rattle.jumps.proofs.Naming.{name-is}
 use Rattle.jumps.proofs.Using.{uses-are}
+use Rattle.jumps.proofs.Edges.{taken-is}
 use Rattle.jumps.proofs.Ends.{lines-are}
-
--- ---- the lesser of two numbers
-pub least-first : (a b : ℕ) → a < b → a ≡ least a b
-unfolding least
-least-first a b h = rw (lt-ltb a b h)
-
-pub least-second : (a b : ℕ) → b ≤ a → b ≡ least a b
-unfolding least
-least-second a b h = rw (le-ltb a b h)
-
-least-le : (a b : ℕ) → least a b ≤ b
-unfolding least
-least-le a b = by-test (ltb a b) (λ h. rw h (omega (arith, ltb-true a b h))) (λ h. rw h (omega arith))
 
 -- ---- what a branch gives its parts
 module _ (f : List ℕ) (block i item : ℕ) (at : BranchAt f block i item) where
-  pub branch-block : BlockAt f block
-  branch-block = record { inside = at .inside; ends = at .ends }
-
   pub args-fit : ((k : ℕ) → Fits w8 (getD f k 0)) → (count x n : ℕ) → x ≡ stmtField f i 6 → n ≡ least count x → item + n < 4294967296
   args-fit bytes count x n e p =
       let here : i < size f statements = omega (arith, at .before-end, at .ends) in
@@ -68,85 +54,38 @@ module _ (f : List ℕ) (block i item : ℕ) (at : BranchAt f block i item) wher
       omega (arith, least-le count x)
 
 -- ---- the first of a run
-take-less : (c a n : ℕ) → c ≤ n → take c (range a n) ≡ range a c
-unfolding range
-take-less zero a n h = refl
-take-less (suc c) a zero h = absurd (omega arith)
-take-less (suc c) a (suc n) h = ap (λ (l : List ℕ). a ∷ l) (take-less c (a + 1) n (omega arith))
-
-take-range : (c a n : ℕ) → take c (range a n) ≡ range a (least c n)
-unfolding least
-take-range c a n =
-    by-test (ltb c n) (λ h. rw h (take-less c a n (omega (arith, ltb-true c n h))))
-    (λ h. rw h (take-all c (range a n) (omega (arith, length-range a n, ltb-false c n h))))
-
-take-map : {A : Type 0} {B : Type 0} (g : A → B) (c : ℕ) (l : List A) → take c (map g l) ≡ map g (take c l)
-take-map g zero l = refl
-take-map g (suc c) [] = refl
-take-map {A} {B} g (suc c) (x ∷ l) = ap (λ (m : List B). g x ∷ m) (take-map g c l)
-
 take-uses : (E : Edition) (f : List ℕ) (c a n : ℕ) → take c (usesOf E f a n) ≡ usesOf E f a (least c n)
-unfolding usesOf treesOf listed
-take-uses E f c a n =
-    let read-item : ℕ → ℕ = (λ (k : ℕ). itemWord f k 0) in
-    take-map (treeAt (allTrees E f)) c (map read-item (range a n))
-    ∙ ap (λ (l : List ℕ). map (treeAt (allTrees E f)) l) (take-map read-item c (range a n) ∙ ap (λ (l : List ℕ). map read-item l) (take-range c a n))
+unfolding usesOf
+take-uses = take-listed
 
 -- ---- where a plain branch goes
-has-when : (c : Bool) (a : ℕ) → c ≡ has (cond c (some a) none)
-unfolding has
-has-when true a = refl
-has-when false a = refl
-
 module _ (f : List ℕ) (b i w : ℕ) (own : w ≡ stmtField f i 3) where
-  pub goes-own : w ≡ 1 → true ≡ has (goalOf f b i)
-  unfolding goalOf orElse has
-  goes-own h = rw (← own, eq-eqb w 1 h)
+  pub goal-own : (a : ℕ) → w ≡ 1 → a ≡ stmtLong f i 8 → some a ≡ goalOf f b i
+  unfolding goalOf orElse
+  goal-own a h p = rw (← own, eq-eqb w 1 h) (ap (λ (x : ℕ). some x) p)
 
-  pub goal-own : (a : ℕ) → w ≡ 1 → a ≡ stmtLong f i 8 → a ≡ given 0 (goalOf f b i)
-  unfolding goalOf orElse given
-  goal-own a h p = rw (← own, eq-eqb w 1 h) p
-
-  module _ (n : w ≡ 1 → ⊥) (v : ℕ) (edge : v ≡ blockWord f b 2) where
-    pub goes-taken : eqb v 1 ≡ has (goalOf f b i)
-    unfolding goalOf orElse
-    goes-taken = rw (← own, ne-eqb w 1 n, ← edge) (has-when (eqb v 1) (blockLong f b 3))
-
-    pub goal-taken : (a : ℕ) → v ≡ 1 → a ≡ blockLong f b 3 → a ≡ given 0 (goalOf f b i)
-    unfolding goalOf orElse given
-    goal-taken a h p = rw (← own, ne-eqb w 1 n, ← edge, eq-eqb v 1 h) p
-
-    pub goal-none : (v ≡ 1 → ⊥) → 0 ≡ given 0 (goalOf f b i)
-    unfolding goalOf orElse given
-    goal-none h = rw (← own, ne-eqb w 1 n, ← edge, ne-eqb v 1 h)
-
--- what is there, and that nothing is
-there : (o : Option ℕ) → has o ≡ true → o ≡ some (given 0 o)
-unfolding has given
-there none h = absurd (false≢true h)
-there (some a) h = refl
-
-nowhere : (o : Option ℕ) → has o ≡ false → o ≡ none
-unfolding has
-nowhere none h = refl
-nowhere (some a) h = absurd (true≢false h)
+  pub goal-taken : (x : Block) → (w ≡ 1 → ⊥) → x ≡ blockRecord f b → viewDestination (x .taken) ≡ goalOf f b i
+  unfolding goalOf orElse
+  goal-taken x n is = rw (← own, ne-eqb w 1 n) (sym (taken-is f b x is))
 
 -- ---- its lines
-module _ (E : Edition) (f : List ℕ) (b i item count : ℕ) (s s₀ : Sheet) (d : Bool) (goes : d ≡ has (goalOf f b i)) where
-  pub plain-goes : (a x m : ℕ) → d ≡ true → a ≡ given 0 (goalOf f b i) → x ≡ stmtField f i 6 → m ≡ least count x
-      → seenSheet s ≡ seenSheet (writeAll s₀ (jumpOf E f b i a (usesOf E f item m))) → seenSheet s ≡ seenSheet (writeAll s₀ (plainOf E f b i item count))
+module _ (E : Edition) (f : List ℕ) (b i item count : ℕ) (s s₀ : Sheet) (d : Destination) (goes : viewDestination d ≡ goalOf f b i) where
+  pub plain-goes : (x m : ℕ) → d .there ≡ true → x ≡ stmtField f i 6 → m ≡ least count x
+      → seenSheet s ≡ seenSheet (writeAll s₀ (jumpOf E f b i (d .address) (usesOf E f item m))) → seenSheet s ≡ seenSheet (writeAll s₀ (plainOf E f b i item count))
   unfolding plainOf plainTo
-  plain-goes a x m h p uses few k =
-      lines-are s s₀ (jumpOf E f b i a (usesOf E f item m)) (plainOf E f b i item count)
-      (ap (plainTo E f b i item (stmtField f i 6) (least count (stmtField f i 6))) (there (goalOf f b i) (sym goes ∙ h))
-      ∙ sym (ap₂ (λ (c n : ℕ). jumpOf E f b i c (usesOf E f item n)) p (few ∙ ap (least count) uses))) k
+  plain-goes x m h uses few k =
+      let to : goalOf f b i ≡ some (d .address) = sym goes ∙ rw h in
+      lines-are s s₀ (jumpOf E f b i (d .address) (usesOf E f item m)) (plainOf E f b i item count)
+      (ap (plainTo E f b i item (stmtField f i 6) (least count (stmtField f i 6))) to
+      ∙ sym (ap (λ (n : ℕ). jumpOf E f b i (d .address) (usesOf E f item n)) (few ∙ ap (least count) uses))) k
 
-  pub plain-computed : d ≡ false → seenSheet s ≡ seenSheet (writeAll s₀ (stmtLine f i (computedTokens E f item (stmtField f i 6))))
+  pub plain-computed : d .there ≡ false → seenSheet s ≡ seenSheet (writeAll s₀ (stmtLine f i (computedTokens E f item (stmtField f i 6))))
       → seenSheet s ≡ seenSheet (writeAll s₀ (plainOf E f b i item count))
   unfolding plainOf plainTo
   plain-computed h k =
+      let to : goalOf f b i ≡ none = sym goes ∙ rw h in
       lines-are s s₀ (stmtLine f i (computedTokens E f item (stmtField f i 6))) (plainOf E f b i item count)
-      (ap (plainTo E f b i item (stmtField f i 6) (least count (stmtField f i 6))) (nowhere (goalOf f b i) (sym goes ∙ h))) k
+      (ap (plainTo E f b i item (stmtField f i 6) (least count (stmtField f i 6))) to) k
 
 -- ---- all of it
 module _ (E : Edition) (f : List ℕ) (b i item count : ℕ) (at : BranchAt f b i item) (set : List ℕ) (regs : count ≡ countSet set (read E f .args)) where

@@ -1,16 +1,15 @@
 -- A block's first and last line: the table of labels says of a block whether the definition labels it, and each test of the closing goto is the
 -- definition's.
-use mathlib.Core.Path.{_≡_, refl, sym, ap, _∙_}
+use mathlib.Core.Path.{_≡_, refl, ap, ap₂, _∙_}
 use mathlib.Core.Bool.{Bool, true, false, not, cond, _||_}
 use mathlib.Core.Option.{Option, none, some}
 use mathlib.Core.List.{List, [], _∷_, _++_, map}
 use Prim.Native.Nat.{ℕ, _-_, _<_}
 use native.Mathlib.Omega.{arith}
 use lib.ListN.{length, replicate}
-use borrow.Author.Tests.{eq-eqb, ne-eqb}
 use Rattle.definition.specs.Edition.{Edition, blocks}
 use Rattle.definition.specs.Lists.{among, orElse, range}
-use Rattle.definition.specs.Contents.{size, blockWord, blockLong, stmtLong}
+use Rattle.definition.specs.Contents.{size, blockLong}
 use Rattle.definition.specs.Ssa.{Block}
 use Rattle.definition.specs.Read.{allTrees, blockAt, read}
 use Rattle.definition.specs.Numbers.{label}
@@ -19,6 +18,9 @@ use Rattle.definition.specs.Tokens.{Line, symbol, line}
 use Rattle.definition.specs.Lower.{gotoTokens}
 use Rattle.definition.specs.Blocks.{lowering, closing, labelLine}
 use Rattle.definition.specs.Listing.{padded}
+use Rattle.ssa.specs.Block.{blockRecord}
+use Rattle.ssa.specs.View.{viewDestination}
+use Rattle.ssa.specs.declared.block.Block.{Block as BlockS}
 use Rattle.values.specs.Tables.{at}
 use Rattle.values.proofs.Ranges.{at-left, map-length, at-below}
 use Rattle.reads.proofs.Statements.{map-map}
@@ -29,24 +31,13 @@ use Rattle.room.specs.Room.{Room, Sheet, sheetOf, roomOf, emitAll, seen, writeA
 use Rattle.room.specs.Ending.{Ended}
 use Rattle.room.proofs.Laws.{line-ends, written-none}
 use Rattle.lowering.specs.Lowered.{loweringOf, hereAt}
+use Rattle.lowering.proofs.Lines.{left-out, not-out}
 use Rattle.jumps.specs.Written.{markTokens}
-
--- ---- lines that a test leaves out, which the code has as d
-module _ (ls xs : List Line) (b d : Bool) (are : ls ≡ cond b [] xs) (says : d ≡ b) where
-  pub left-out : (s : Sheet) → d ≡ true → seenSheet s ≡ seenSheet (writeAll s ls)
-  left-out s h = written-none s ∙ ap (λ (l : List Line). seenSheet (writeAll s l)) (sym (are ∙ rw (sym says ∙ h)))
-
-  pub not-out : d ≡ false → ls ≡ xs
-  not-out h = are ∙ rw (sym says ∙ h)
+use Rattle.jumps.proofs.Edges.{taken-is, fall-is}
 
 -- the same lines, named otherwise
 pub lines-are : (s s₀ : Sheet) (xs ls : List Line) → ls ≡ xs → seenSheet s ≡ seenSheet (writeAll s₀ xs) → seenSheet s ≡ seenSheet (writeAll s₀ ls)
 lines-are s s₀ xs ls p h = rw p h
-
--- a statement's line ends at its address
-pub ends-at : (l l′ : List ℕ) (o r : Out) (f : List ℕ) (i a : ℕ) → a ≡ stmtLong f i 0 → Ended l o 1 (optionOf (Address a)) l′ r → Ended l o 1 (some (stmtLong f i 0)) l′ r
-unfolding optionOf
-ends-at l l′ o r f i a e d = rw (← e) d
 
 -- the front of a table
 at-front : (xs ys : List ℕ) (n b : ℕ) → length xs ≡ n → b < n → at (xs ++ ys) b ≡ at xs b
@@ -119,7 +110,7 @@ module _ (E : Edition) (f : List ℕ) (b : ℕ) where
   pub closing-leaves : (s : Sheet) (leaves : Bool) → leaves ≡ true → seenSheet s ≡ seenSheet (writeAll s (closed leaves))
   closing-leaves s leaves h = rw h (written-none s)
 
-  module _ (leaves : Bool) (on : leaves ≡ false) (w : ℕ) (falls : w ≡ blockWord f b 5) where
+  module _ (leaves : Bool) (on : leaves ≡ false) (x : BlockS) (is : x ≡ blockRecord f b) where
     -- by where it goes
     closing-by : (o : Option ℕ) → edge ≡ o → (s s₀ : Sheet) → seenSheet s ≡ seenSheet (writeAll s₀ (closing (loweringOf E f) (hereAt E f b) o))
         → seenSheet s ≡ seenSheet (writeAll s₀ (closed leaves))
@@ -127,27 +118,31 @@ module _ (E : Edition) (f : List ℕ) (b : ℕ) where
         lines-are s s₀ (closing (loweringOf E f) (hereAt E f b) o) (closed leaves)
         (ap (λ (c : Bool). cond c [] (closing (loweringOf E f) (hereAt E f b) edge)) on ∙ ap (closing (loweringOf E f) (hereAt E f b)) p) e
 
-    edge-fall : (a : ℕ) → w ≡ 1 → a ≡ blockLong f b 6 → edge ≡ some a
-    unfolding hereAt blockAt orElse
-    edge-fall a h p = rw (← falls, eq-eqb w 1 h, ← p)
+    edge-by : edge ≡ orElse (viewDestination (x .fall)) (viewDestination (x .taken))
+    unfolding hereAt blockAt
+    edge-by = ap₂ (λ (o p : Option ℕ). orElse o p) (fall-is f b x is) (taken-is f b x is)
 
-    pub closing-fall : (s s₀ : Sheet) (a : ℕ) → w ≡ 1 → a ≡ blockLong f b 6 → seenSheet s ≡ seenSheet (writeAll s₀ (closing (loweringOf E f) (hereAt E f b) (some a)))
+    edge-fall : x .fall .there ≡ true → edge ≡ some (x .fall .address)
+    unfolding orElse
+    edge-fall h = edge-by ∙ rw h
+
+    pub closing-fall : (s s₀ : Sheet) → x .fall .there ≡ true → seenSheet s ≡ seenSheet (writeAll s₀ (closing (loweringOf E f) (hereAt E f b) (some (x .fall .address))))
         → seenSheet s ≡ seenSheet (writeAll s₀ (closed leaves))
-    closing-fall s s₀ a h p e = closing-by (some a) (edge-fall a h p) s s₀ e
+    closing-fall s s₀ h e = closing-by (some (x .fall .address)) (edge-fall h) s s₀ e
 
-    module _ (v : ℕ) (takes : v ≡ blockWord f b 2) (n : w ≡ 1 → ⊥) where
-      edge-taken : (a : ℕ) → v ≡ 1 → a ≡ blockLong f b 3 → edge ≡ some a
-      unfolding hereAt blockAt orElse
-      edge-taken a h p = rw (← falls, ne-eqb w 1 n, ← takes, eq-eqb v 1 h, ← p)
+    module _ (n : x .fall .there ≡ false) where
+      edge-taken : x .taken .there ≡ true → edge ≡ some (x .taken .address)
+      unfolding orElse
+      edge-taken h = edge-by ∙ rw (n, h)
 
-      edge-none : (v ≡ 1 → ⊥) → edge ≡ none
-      unfolding hereAt blockAt orElse
-      edge-none h = rw (← falls, ne-eqb w 1 n, ← takes, ne-eqb v 1 h)
+      edge-none : x .taken .there ≡ false → edge ≡ none
+      unfolding orElse
+      edge-none h = edge-by ∙ rw (n, h)
 
-      pub closing-taken : (s s₀ : Sheet) (a : ℕ) → v ≡ 1 → a ≡ blockLong f b 3 → seenSheet s ≡ seenSheet (writeAll s₀ (closing (loweringOf E f) (hereAt E f b) (some a)))
+      pub closing-taken : (s s₀ : Sheet) → x .taken .there ≡ true → seenSheet s ≡ seenSheet (writeAll s₀ (closing (loweringOf E f) (hereAt E f b) (some (x .taken .address))))
           → seenSheet s ≡ seenSheet (writeAll s₀ (closed leaves))
-      closing-taken s s₀ a h p e = closing-by (some a) (edge-taken a h p) s s₀ e
+      closing-taken s s₀ h e = closing-by (some (x .taken .address)) (edge-taken h) s s₀ e
 
-      pub closing-none : (s : Sheet) → (v ≡ 1 → ⊥) → seenSheet s ≡ seenSheet (writeAll s (closed leaves))
+      pub closing-none : (s : Sheet) → x .taken .there ≡ false → seenSheet s ≡ seenSheet (writeAll s (closed leaves))
       unfolding closing
       closing-none s h = closing-by none (edge-none h) s s (written-none s)

@@ -15,10 +15,9 @@ use Rattle.definition.specs.Lookup.{order}
 use Rattle.definition.specs.Tokens.{textual, keyword, symbol, address, punct}
 use Rattle.definition.specs.Lower.{gotoTokens, commaList}
 use Rattle.room.specs.Room.{Room, Sheet, emit, emitAll, seen, writeAll, seenSheet}
-use Rattle.room.proofs.Laws.{next, more, done, writes}
+use Rattle.room.proofs.Laws.{next, more, done, writes, pieces-are}
 use Rattle.lowering.specs.Lowered.{loweringOf}
 use Rattle.jumps.specs.Written.{usesOf, nameOf, stmtLine, toBlock, nameTokens, callTokens, returnTokens, endTokens, tailBy, tailOf, leaveOf, jumpOf}
-use Rattle.lowering.proofs.Commas.{pieces-are}
 use Rattle.jumps.proofs.Using.{uses-are}
 
 pub end-put : (r r₁ r₀ : Room) → r₁ ≡ emit r₀ (keyword (txt "return")) → r ≡ emit r₁ (punct (txt ";")) → seen r ≡ seen (emitAll r₀ endTokens)

@@ -1,6 +1,7 @@
 pub mod Naming
 pub mod Using
 pub mod Gotos
+pub mod Edges
 pub mod Ends
 pub mod Lines
 pub mod Testing

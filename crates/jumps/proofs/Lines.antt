@@ -16,11 +16,11 @@ use Rattle.marks.specs.Labels.{nextAt}
 use Rattle.room.specs.declared.out.Out.{Out}
 use Rattle.room.specs.Room.{Room, Sheet, sheetOf, roomOf, emit, emitAll, seen, writeAll, seenSheet}
 use Rattle.room.specs.Ending.{Ended}
-use Rattle.room.proofs.Laws.{next, more, done, line-ends}
+use Rattle.room.proofs.Laws.{next, more, done, line-ends, pieces-are}
 use Rattle.lowering.specs.Lowered.{loweringOf}
 use Rattle.jumps.specs.Written.{usesOf, stmtLine, toBlock, computedTokens}
-use Rattle.jumps.proofs.Ends.{left-out, not-out, lines-are}
-use Rattle.lowering.proofs.Commas.{pieces-are}
+use Rattle.lowering.proofs.Lines.{left-out, not-out}
+use Rattle.jumps.proofs.Ends.{lines-are}
 
 pub stmt-put : (f : List ℕ) (i : ℕ) (l l′ : List ℕ) (r₀ : Room) (ks ts : List ℕ) (o₁ o : Out) (ps : List Token)
     → seen (roomOf ks ts o₁) ≡ seen (emitAll r₀ ps) → Ended l o₁ 1 (some (stmtLong f i 0)) l′ o

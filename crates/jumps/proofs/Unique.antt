@@ -2,34 +2,21 @@
 -- so no second outcome meets it that differs in what may be seen, which is all of it unless it is full.
 use mathlib.Core.Path.{_≡_, sym, _∙_}
 use mathlib.Core.Bool.{Bool, cond}
-use mathlib.Core.Option.{some}
 use mathlib.Core.List.{List, []}
 use Prim.Native.Nat.{ℕ, _+_}
 use Rattle.definition.specs.Edition.{Edition}
-use Rattle.definition.specs.Contents.{text, blockLong, stmtLong}
+use Rattle.definition.specs.Contents.{text, blockLong}
 use Rattle.definition.specs.Lists.{orElse}
 use Rattle.definition.specs.Owners.{stmtField, blockStmts, firstStmt}
 use Rattle.definition.specs.Ssa.{Stmt}
 use Rattle.definition.specs.Read.{read}
 use Rattle.definition.specs.Numbers.{label as labelOf}
-use Rattle.definition.specs.Lookup.{isNext}
 use Rattle.definition.specs.Tokens.{Token, Line, tok, symbol}
 use Rattle.definition.specs.Lower.{gotoTokens, countSet}
 use Rattle.definition.specs.Blocks.{closing as closingOf, labelLine}
-use Rattle.marks.specs.Labels.{nextAt}
-use Rattle.room.specs.declared.out.Out.{Out}
 use Rattle.room.specs.Room.{Room, Sheet, emitAll, seen, writeAll, seenSheet}
-use Rattle.room.specs.Ending.{Ended}
-use Rattle.room.proofs.Unique.{end-line}
 use Rattle.lowering.specs.Lowered.{loweringOf, lowered, hereAt}
 use Rattle.jumps.specs.Written.{usesOf, nameOf, stmtLine, toBlock, computedTokens, ifLines, leaveOf}
-
-pub is-next : (f : List ℕ) (b a : ℕ) (r s : Bool) → r ≡ isNext (nextAt f b) a → s ≡ isNext (nextAt f b) a → r ≡ s
-is-next f b a r s p q = p ∙ sym q
-
-pub end-stmt : (l : List ℕ) (o : Out) (f : List ℕ) (i : ℕ) (m m′ : List ℕ) (r r′ : Out) → Ended l o 1 (some (stmtLong f i 0)) m r → Ended l o 1 (some (stmtLong f i 0)) m′ r′
-    → (m ≡ m′) × (r ≡ r′)
-end-stmt l o f i m m′ r r′ p q = end-line l o 1 (some (stmtLong f i 0)) m m′ r r′ p q
 
 pub put-goto : (a : ℕ) (r s entry : Room) → seen r ≡ seen (emitAll entry (gotoTokens (symbol (labelOf a)))) → seen s ≡ seen (emitAll entry (gotoTokens (symbol (labelOf a)))) → seen r ≡ seen s
 put-goto a r s entry p q = p ∙ sym q

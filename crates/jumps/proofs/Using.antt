@@ -9,10 +9,10 @@ use Rattle.definition.specs.Contents.{itemWord}
 use Rattle.definition.specs.Read.{treeAt, allTrees}
 use Rattle.definition.specs.Lower.{firstOf}
 use Rattle.room.specs.Room.{Room, emitAll, seen}
-use Rattle.room.proofs.Laws.{done}
+use Rattle.room.proofs.Laws.{done, pieces-are}
 use Rattle.lowering.specs.Lowered.{loweringOf, exprOf}
 use Rattle.lowering.specs.Commas.{comma, argOf, treesOf, listed}
-use Rattle.lowering.proofs.Commas.{pieces-are, listed-is}
+use Rattle.lowering.proofs.Commas.{listed-is}
 use Rattle.jumps.specs.Written.{usesOf}
 
 module _ (E : Edition) (f : List ℕ) where

@@ -17,8 +17,3 @@ pub record BranchAt (f : List ℕ) (block i item : ℕ) : Type 0 where
   pub ends : firstStmt f block + blockStmts f block ≤ size f statements
   pub first : item ≡ firstItem f i
   pub own : owned f ≡ true
-
--- a block of the file, with its statements
-pub record BlockAt (f : List ℕ) (block : ℕ) : Type 0 where
-  pub inside : block < size f blocks
-  pub ends : firstStmt f block + blockStmts f block ≤ size f statements

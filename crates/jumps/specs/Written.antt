@@ -3,7 +3,7 @@ use mathlib.Core.Bool.{Bool, cond}
 use mathlib.Core.Option.{Option, none, some}
 use mathlib.Core.List.{List, [], _∷_, _++_}
 use Prim.Native.Nat.{ℕ}
-use lib.Dec.{eqb, ltb}
+use lib.Dec.{eqb}
 use Rattle.definition.specs.Edition.{Edition}
 use Rattle.definition.specs.Words.{word}
 use Rattle.definition.specs.Texts.{txt, begins}
@@ -19,7 +19,7 @@ use Rattle.definition.specs.Condition.{condition}
 use Rattle.definition.specs.Lower.{gotoTokens, commaList, firstOf}
 use Rattle.marks.specs.Labels.{nextAt}
 use Rattle.lowering.specs.Lowered.{loweringOf, hereAt}
-use Rattle.lowering.specs.Commas.{treesOf, listed}
+use Rattle.lowering.specs.Commas.{treesOf, listed, least}
 
 -- the trees of n list items from a on
 unfoldable pub usesOf : Edition → List ℕ → ℕ → ℕ → List Expr
@@ -75,10 +75,6 @@ unfoldable pub ifLines : Edition → List ℕ → ℕ → ℕ → List Line
 ifLines E f b i = stmtLine f i (testTokens E f b i) ++ fallOf E f b i
 
 -- ---- a jump out of the function
--- the lesser of two numbers
-unfoldable pub least : ℕ → ℕ → ℕ
-least a b = cond (ltb a b) a b
-
 -- `NAME(ARGS)`, and with its `;`
 unfoldable pub nameTokens : Edition → List ℕ → ℕ → List Expr → List Token
 nameTokens E f a xs = symbol (nameOf E f a) ∷ punct (txt "(") ∷ (commaList (loweringOf E f) xs ++ (punct (txt ")") ∷ []))

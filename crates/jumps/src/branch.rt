@@ -4,64 +4,45 @@ use crate::jump::computed;
 use crate::jump::to_block;
 use crate::tail::leave;
 use calls::targets::is_block;
-use records::contents::block_long;
-use records::contents::block_word;
+use conditions::operands::Found;
+use lowering::list::least_of;
 use records::contents::stmt_long;
-use records::contents::stmt_word;
+use records::owners::is_dead;
 use records::owners::stmt_field;
 use room::out::Out;
+use ssa::block::block_at;
+use ssa::parts::Destination;
 use values::places::Places;
 ghost use mathlib.Core.Path.{_≡_};
 ghost use mathlib.Core.List.{List};
 ghost use Prim.Native.Nat.{ℕ, _+_, _<_};
 ghost use Rattle.definition.specs.Edition.{Edition, blocks};
-ghost use Rattle.definition.specs.Lists.{given, has};
 ghost use Rattle.definition.specs.Contents.{size, text as textOf};
 ghost use Rattle.definition.specs.Owners.{blockStmts, firstStmt};
 ghost use Rattle.definition.specs.Ssa.{Stmt};
-ghost use Rattle.definition.specs.Read.{marked, read};
+ghost use Rattle.definition.specs.Read.{read};
 ghost use Rattle.definition.specs.Lower.{countSet};
+ghost use Rattle.ssa.specs.View.{viewDestination};
 ghost use Rattle.room.specs.Room.{sheetOf, writeAll, seenSheet};
 ghost use Rattle.render.specs.Told.{Told};
 ghost use Rattle.lowering.specs.Lowered.{lowered, hereAt};
+ghost use Rattle.conditions.specs.Pairs.{Set};
 ghost use Rattle.jumps.specs.Given.{BranchAt};
-ghost use Rattle.jumps.specs.Written.{usesOf, least, jumpOf, goalOf, plainOf};
+ghost use Rattle.jumps.specs.Written.{usesOf, jumpOf, goalOf, plainOf};
 
-fn is_dead(f: &[u8], i: u32) -> bool
-    ensures { λ r. ⌜ r ≡ marked (now (f .entry)) i 1 ⌝ }
-{
-    stmt_word(f, i, 2) % 2 == 1
-}
-
-fn lesser(a: u32, b: u32) -> u32
-    ensures { λ r. ⌜ r ≡ least a b ⌝ }
-{
-    if a < b {
-        return a;
-    }
-    b
-}
-
-// Whether a plain branch goes to an address, and to which: its own target, else where the block goes.
-fn goes(f: &[u8], block: u32, i: u32) -> bool
-    ensures { λ r. ⌜ r ≡ has (goalOf (now (f .entry)) block i) ⌝ }
+// Where a plain branch goes, if to an address: to its own target, else where the block goes.
+fn goal(f: &[u8], block: u32, i: u32) -> Destination
+    ensures { λ r. ⌜ viewDestination r ≡ goalOf (now (f .entry)) block i ⌝ }
 {
     if stmt_field(f, i, 3) == 1 {
-        return true;
+        return Destination {
+            there: true,
+            address: stmt_long(f, i, 8),
+        };
     }
-    block_word(f, block, 2) == 1
-}
-
-fn goal(f: &[u8], block: u32, i: u32) -> u64
-    ensures { λ r. ⌜ r ≡ given 0 (goalOf (now (f .entry)) block i) ⌝ }
-{
-    if stmt_field(f, i, 3) == 1 {
-        return stmt_long(f, i, 8);
-    }
-    if block_word(f, block, 2) == 1 {
-        return block_long(f, block, 3);
-    }
-    0
+    let b = block_at(f, block);
+    let taken = b.taken;
+    taken
 }
 
 // To a: a block, or out of the function with n list items from `item` on as arguments.
@@ -134,9 +115,9 @@ fn plain_branch(
     ensures { λ r. ⌜ ((E : Edition) → textOf E ≡ t → seenSheet (sheetOf (now (lines .exit)) (now (tokens .exit)) (now (text .exit)) r)
         ≡ seenSheet (writeAll (sheetOf (now (lines .entry)) (now (tokens .entry)) (now (text .entry)) out) (plainOf E (now (f .entry)) block i item count))) ⌝ }
 {
-    if goes(f, block, i) {
-        let a = goal(f, block, i);
-        let n = lesser(count, stmt_field(f, i, 6));
+    let to = goal(f, block, i);
+    if to.there {
+        let n = least_of(count, stmt_field(f, i, 6));
         return jump_to(
             lines,
             tokens,
@@ -151,7 +132,7 @@ fn plain_branch(
             names,
             block,
             i,
-            a,
+            to.address,
             item,
             n,
         );
@@ -173,7 +154,7 @@ fn plain_branch(
     )
 }
 
-// Of the statement i in a block, with `count` argument registers set; its uses are list items from `item` on.
+// Of the statement i in a block, with `count` argument registers set; its uses are list items from `item` on, and `setter` set the block's flags.
 pub fn branch(
     lines: &mut [u64],
     tokens: &mut [u64],
@@ -190,9 +171,11 @@ pub fn branch(
     i: u32,
     item: u32,
     count: u32,
+    setter: Found,
 ) -> Out
     requires { ⌜ Told (now f) t places (now numbers) (now offs) (now placed) (now names) ⌝ }
     requires { ⌜ BranchAt (now f) block i item ⌝ }
+    requires { ⌜ Set (now f) t (firstStmt (now f) block) (blockStmts (now f) block) setter ⌝ }
     ensures { λ r. ⌜ ((E : Edition) (pend : List Stmt) (set : List ℕ) → textOf E ≡ t → count ≡ countSet set (read E (now (f .entry)) .args)
         → seenSheet (sheetOf (now (lines .exit)) (now (tokens .exit)) (now (text .exit)) r)
         ≡ seenSheet (writeAll (sheetOf (now (lines .entry)) (now (tokens .entry)) (now (text .entry)) out) (lowered E (now (f .entry)) (hereAt E (now (f .entry)) block) pend set (firstStmt (now (f .entry)) block + blockStmts (now (f .entry)) block) i))) ⌝ }
@@ -215,6 +198,7 @@ pub fn branch(
             names,
             block,
             i,
+            setter,
         );
     }
     plain_branch(

@@ -1,12 +1,11 @@
 // The goto that closes a block whose last statement does not leave it.
 use crate::goto::put_goto;
-use crate::parts::is_next;
 use calls::targets::is_block;
-use records::contents::block_long;
-use records::contents::block_word;
+use marks::labels::is_next;
 use room::line::end_line;
 use room::out::At;
 use room::out::Out;
+use ssa::block::block_at;
 ghost use mathlib.Core.Path.{_≡_};
 ghost use mathlib.Core.Bool.{not, cond, _||_};
 ghost use mathlib.Core.Option.{some};
@@ -71,11 +70,12 @@ pub fn closing(
     if leaves {
         return out;
     }
-    if block_word(f, block, 5) == 1 {
-        return close_to(lines, tokens, text, out, f, block, block_long(f, block, 6));
+    let b = block_at(f, block);
+    if b.fall.there {
+        return close_to(lines, tokens, text, out, f, block, b.fall.address);
     }
-    if block_word(f, block, 2) == 1 {
-        return close_to(lines, tokens, text, out, f, block, block_long(f, block, 3));
+    if b.taken.there {
+        return close_to(lines, tokens, text, out, f, block, b.taken.address);
     }
     out
 }

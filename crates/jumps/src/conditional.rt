@@ -1,50 +1,36 @@
 // A conditional branch, and the goto to where its block falls.
 use crate::goto::name_line;
 use crate::goto::put_goto_name;
-use crate::parts::KEYWORD;
-use crate::parts::PUNCT;
-use crate::parts::SYMBOL;
-use crate::parts::end_stmt;
-use crate::parts::is_next;
 use conditions::condition::put_condition;
-use records::contents::block_long;
-use records::contents::block_word;
+use conditions::operands::Found;
+use lowering::kinds::KEYWORD;
+use lowering::kinds::PUNCT;
+use lowering::kinds::SYMBOL;
+use lowering::line::end_stmt;
+use marks::labels::is_next;
 use records::contents::stmt_long;
-use records::owners::block_stmts;
 use records::owners::stmt_field;
 use room::out::Out;
 use room::put::put;
+use ssa::block::block_at;
 use values::places::Places;
 ghost use mathlib.Core.Path.{_≡_};
 ghost use Prim.Native.Nat.{_<_};
 ghost use Rattle.definition.specs.Edition.{Edition, blocks};
 ghost use Rattle.definition.specs.Contents.{size, text as textOf};
-ghost use Rattle.definition.specs.Owners.{firstStmt};
+ghost use Rattle.definition.specs.Owners.{blockStmts, firstStmt};
 ghost use Rattle.room.specs.Room.{roomOf, emitAll, seen, sheetOf, writeAll, seenSheet};
 ghost use Rattle.render.specs.Told.{Told};
-ghost use Rattle.jumps.specs.Given.{BlockAt};
+ghost use Rattle.conditions.specs.Pairs.{Set};
 ghost use Rattle.jumps.specs.Written.{stmtLine, conditionOf, ifTokens, aimOf, testTokens, fallOf, ifLines};
-
-// The first statement of a block, behind those of the blocks before it.
-fn first_stmt(f: &[u8], block: u32) -> u32
-    requires { ⌜ firstStmt (now f) block < 4294967296 ⌝ }
-    ensures { λ r. ⌜ r ≡ firstStmt (now (f .entry)) block ⌝ }
-{
-    let mut n = 0;
-    let mut b = 0;
-    while b < block {
-        n += block_stmts(f, b);
-        b += 1;
-    }
-    n
-}
 
 // Where it goes: the block's taken edge, else its own target, else 0.
 fn aim(f: &[u8], block: u32, i: u32) -> u64
     ensures { λ r. ⌜ r ≡ aimOf (now (f .entry)) block i ⌝ }
 {
-    if block_word(f, block, 2) == 1 {
-        return block_long(f, block, 3);
+    let b = block_at(f, block);
+    if b.taken.there {
+        return b.taken.address;
     }
     if stmt_field(f, i, 3) == 1 {
         return stmt_long(f, i, 8);
@@ -66,14 +52,13 @@ fn put_tested(
     names: &[u32],
     block: u32,
     i: u32,
+    setter: Found,
 ) -> Out
     requires { ⌜ Told (now f) t places (now numbers) (now offs) (now placed) (now names) ⌝ }
-    requires { ⌜ BlockAt (now f) block ⌝ }
+    requires { ⌜ Set (now f) t (firstStmt (now f) block) (blockStmts (now f) block) setter ⌝ }
     ensures { λ r. ⌜ ((E : Edition) → textOf E ≡ t → seen (roomOf (now (tokens .exit)) (now (text .exit)) r)
         ≡ seen (emitAll (roomOf (now (tokens .entry)) (now (text .entry)) out) (conditionOf E (now (f .entry)) block i))) ⌝ }
 {
-    let first = first_stmt(f, block);
-    let n = block_stmts(f, block);
     let start = stmt_field(f, i, 1);
     let len = stmt_field(f, i, 2);
     put_condition(
@@ -87,8 +72,7 @@ fn put_tested(
         offs,
         placed,
         names,
-        first,
-        n,
+        setter,
         start,
         len,
     )
@@ -108,9 +92,10 @@ fn put_if(
     names: &[u32],
     block: u32,
     i: u32,
+    setter: Found,
 ) -> Out
     requires { ⌜ Told (now f) t places (now numbers) (now offs) (now placed) (now names) ⌝ }
-    requires { ⌜ BlockAt (now f) block ⌝ }
+    requires { ⌜ Set (now f) t (firstStmt (now f) block) (blockStmts (now f) block) setter ⌝ }
     ensures { λ r. ⌜ ((E : Edition) → textOf E ≡ t → seen (roomOf (now (tokens .exit)) (now (text .exit)) r)
         ≡ seen (emitAll (roomOf (now (tokens .entry)) (now (text .entry)) out) (ifTokens E (now (f .entry)) block i))) ⌝ }
 {
@@ -129,6 +114,7 @@ fn put_if(
         names,
         block,
         i,
+        setter,
     )
 }
 
@@ -146,9 +132,10 @@ fn put_test(
     names: &[u32],
     block: u32,
     i: u32,
+    setter: Found,
 ) -> Out
     requires { ⌜ Told (now f) t places (now numbers) (now offs) (now placed) (now names) ⌝ }
-    requires { ⌜ BlockAt (now f) block ⌝ }
+    requires { ⌜ Set (now f) t (firstStmt (now f) block) (blockStmts (now f) block) setter ⌝ }
     ensures { λ r. ⌜ ((E : Edition) → textOf E ≡ t → seen (roomOf (now (tokens .exit)) (now (text .exit)) r)
         ≡ seen (emitAll (roomOf (now (tokens .entry)) (now (text .entry)) out) (testTokens E (now (f .entry)) block i))) ⌝ }
 {
@@ -166,6 +153,7 @@ fn put_test(
         names,
         block,
         i,
+        setter,
     );
     let out = put(tokens, text, out, PUNCT, b") ");
     put_goto_name(tokens, text, out, SYMBOL, f, t, a)
@@ -186,9 +174,10 @@ fn test_line(
     names: &[u32],
     block: u32,
     i: u32,
+    setter: Found,
 ) -> Out
     requires { ⌜ Told (now f) t places (now numbers) (now offs) (now placed) (now names) ⌝ }
-    requires { ⌜ BlockAt (now f) block ⌝ }
+    requires { ⌜ Set (now f) t (firstStmt (now f) block) (blockStmts (now f) block) setter ⌝ }
     ensures { λ r. ⌜ ((E : Edition) → textOf E ≡ t → seenSheet (sheetOf (now (lines .exit)) (now (tokens .exit)) (now (text .exit)) r)
         ≡ seenSheet (writeAll (sheetOf (now (lines .entry)) (now (tokens .entry)) (now (text .entry)) out) (stmtLine (now (f .entry)) i (testTokens E (now (f .entry)) block i)))) ⌝ }
 {
@@ -205,6 +194,7 @@ fn test_line(
         names,
         block,
         i,
+        setter,
     );
     end_stmt(lines, out, f, i)
 }
@@ -224,10 +214,11 @@ fn fall_line(
     ensures { λ r. ⌜ ((E : Edition) → textOf E ≡ t → seenSheet (sheetOf (now (lines .exit)) (now (tokens .exit)) (now (text .exit)) r)
         ≡ seenSheet (writeAll (sheetOf (now (lines .entry)) (now (tokens .entry)) (now (text .entry)) out) (fallOf E (now (f .entry)) block i))) ⌝ }
 {
-    if block_word(f, block, 5) != 1 {
+    let b = block_at(f, block);
+    if !b.fall.there {
         return out;
     }
-    let a = block_long(f, block, 6);
+    let a = b.fall.address;
     if is_next(f, block, a) {
         return out;
     }
@@ -249,9 +240,11 @@ pub fn conditional(
     names: &[u32],
     block: u32,
     i: u32,
+    setter: Found,
 ) -> Out
     requires { ⌜ Told (now f) t places (now numbers) (now offs) (now placed) (now names) ⌝ }
-    requires { ⌜ BlockAt (now f) block ⌝ }
+    requires { ⌜ block < size (now f) blocks ⌝ }
+    requires { ⌜ Set (now f) t (firstStmt (now f) block) (blockStmts (now f) block) setter ⌝ }
     ensures { λ r. ⌜ ((E : Edition) → textOf E ≡ t → seenSheet (sheetOf (now (lines .exit)) (now (tokens .exit)) (now (text .exit)) r)
         ≡ seenSheet (writeAll (sheetOf (now (lines .entry)) (now (tokens .entry)) (now (text .entry)) out) (ifLines E (now (f .entry)) block i))) ⌝ }
 {
@@ -269,6 +262,7 @@ pub fn conditional(
         names,
         block,
         i,
+        setter,
     );
     fall_line(lines, tokens, text, out, f, t, block, i)
 }

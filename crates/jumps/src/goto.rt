@@ -1,9 +1,9 @@
 // Gotos: their tokens, and the line of one to a name.
-use crate::parts::KEYWORD;
-use crate::parts::PUNCT;
-use crate::parts::TEXT;
-use crate::parts::end_stmt;
 use calls::targets::put_target;
+use lowering::kinds::KEYWORD;
+use lowering::kinds::PUNCT;
+use lowering::kinds::TEXT;
+use lowering::line::end_stmt;
 use room::out::Out;
 use room::put::put;
 use room::put::put_label;

@@ -1,10 +1,10 @@
 // A jump inside the function: to a block, or computed.
 use crate::goto::put_goto;
-use crate::parts::KEYWORD;
-use crate::parts::PUNCT;
-use crate::parts::end_stmt;
-use crate::parts::is_next;
+use lowering::kinds::KEYWORD;
+use lowering::kinds::PUNCT;
+use lowering::line::end_stmt;
 use lowering::list::put_arg;
+use marks::labels::is_next;
 use records::contents::item_word;
 use records::owners::stmt_field;
 use room::out::Out;

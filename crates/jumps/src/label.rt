@@ -1,5 +1,5 @@
 // A block's label.
-use crate::parts::PUNCT;
+use lowering::kinds::PUNCT;
 use records::contents::block_long;
 use room::line::end_line;
 use room::out::At;

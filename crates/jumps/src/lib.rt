@@ -6,5 +6,4 @@ pub mod goto;
 pub mod jump;
 pub mod label;
 mod named;
-pub mod parts;
 pub mod tail;

@@ -1,9 +1,9 @@
 // A function called by its name, with its arguments: `NAME(ARGS);`, and returned.
-use crate::parts::KEYWORD;
-use crate::parts::PUNCT;
-use crate::parts::SYMBOL;
-use crate::parts::TEXT;
 use calls::targets::put_target;
+use lowering::kinds::KEYWORD;
+use lowering::kinds::PUNCT;
+use lowering::kinds::SYMBOL;
+use lowering::kinds::TEXT;
 use lowering::list::put_items;
 use room::out::Out;
 use room::put::put;

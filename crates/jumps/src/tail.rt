@@ -2,11 +2,11 @@
 use crate::goto::name_line;
 use crate::named::put_call;
 use crate::named::put_return;
-use crate::parts::ADDRESS;
-use crate::parts::KEYWORD;
-use crate::parts::PUNCT;
-use crate::parts::end_stmt;
 use calls::targets::leaves_raw;
+use lowering::kinds::ADDRESS;
+use lowering::kinds::KEYWORD;
+use lowering::kinds::PUNCT;
+use lowering::line::end_stmt;
 use room::out::Out;
 use room::put::put;
 use values::places::Places;

@@ -17,6 +17,8 @@ use Rattle.values.specs.Keys.{placesOf}
 use Rattle.records.proofs.Items.{size-small}
 use Rattle.names.proofs.Small.{parts-next, parts-below}
 use Rattle.room.specs.declared.out.Out.{Out}
+use Rattle.conditions.specs.declared.operands.Found.{Found}
+use Rattle.conditions.specs.Pairs.{Set}
 use Rattle.lower.specs.declared.block.Walk.{Walk}
 use Rattle.lower.specs.Given.{Lowers, Known, Stands}
 
@@ -66,6 +68,10 @@ module _ (f : List ℕ) (own : owned f ≡ true) (b : ℕ) (here : b < size f bl
 
     pub end-most : w .stmt + n ≤ 4294967296
     end-most = omega (arith, end-small)
+
+  -- what was found of the walk's statements was found of the block's
+  pub set-here : (t : ℕ) (x : Found) → Set f t (w .stmt) n x → Set f t (firstStmt f b) (blockStmts f b) x
+  set-here t x s = rw (← is .here, ← many) s
 
   pub next-stands : (r : Walk) → Stands f (w .stmt + n) r → Stands f (firstStmt f (b + 1)) r
   next-stands r h = stands-as f (w .stmt + n) (firstStmt f (b + 1)) r (end-is ∙ sym (parts-next f own b .1)) h

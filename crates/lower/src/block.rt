@@ -3,6 +3,8 @@ use crate::stmt::stmt;
 use calls::ends::last_leaves;
 use calls::pushes::from_behind;
 use calls::sets::set_behind;
+use conditions::operands::Found;
+use conditions::operands::operands;
 use jumps::closing::closing;
 use jumps::label::label;
 use meaning::value::next_item;
@@ -20,6 +22,7 @@ ghost use Rattle.definition.specs.Blocks.{lowerStmts, lowerBlock};
 ghost use Rattle.marks.specs.Labels.{Labels};
 ghost use Rattle.room.specs.Room.{sheetOf, seenSheet, writeAll};
 ghost use Rattle.lowering.specs.Lowered.{loweringOf, hereAt};
+ghost use Rattle.conditions.specs.Pairs.{Set};
 ghost use Rattle.lower.specs.Given.{Known, Stands};
 
 // What is written, and where the next statement and its list items begin.
@@ -29,7 +32,7 @@ pub struct Walk {
     pub item: u32,
 }
 
-// The statements of a block that ends before `end`. No pushes wait at first, and no argument register is set.
+// The statements of a block that ends before `end` and whose flags `setter` set. No pushes wait at first, and no argument register is set.
 fn stmts(
     lines: &mut [u64],
     tokens: &mut [u64],
@@ -48,9 +51,11 @@ fn stmts(
     marks: &[u32],
     block: u32,
     end: u32,
+    setter: Found,
 ) -> Walk
     requires { ⌜ Known (now f) t places (now numbers) (now offs) (now placed) (now names) (now live) (now phi) (now roots) (now marks) ⌝ }
     requires { ⌜ (block < size (now f) blocks) × (Stands (now f) (firstStmt (now f) block) w) × (end ≡ firstStmt (now f) block + blockStmts (now f) block) ⌝ }
+    requires { ⌜ Set (now f) t (firstStmt (now f) block) (blockStmts (now f) block) setter ⌝ }
     ensures { λ r. ⌜ (Stands (now (f .entry)) end r) × ((E : Edition) → textOf E ≡ t
         → seenSheet (sheetOf (now (lines .exit)) (now (tokens .exit)) (now (text .exit)) (r .out))
         ≡ seenSheet (writeAll (sheetOf (now (lines .entry)) (now (tokens .entry)) (now (text .entry)) (w .out)) (lowerStmts (loweringOf E (now (f .entry))) (hereAt E (now (f .entry)) block) [] [] (hereAt E (now (f .entry)) block .block .stmts)))) ⌝ }
@@ -83,6 +88,7 @@ fn stmts(
             item,
             from,
             count,
+            setter,
         );
         item = next_item(f, i, item);
         from = from_behind(f, i, from);
@@ -125,6 +131,7 @@ pub fn lower_block(
     let first = w.stmt;
     let n = block_stmts(f, block);
     let leaves = last_leaves(f, first, n);
+    let setter = operands(f, t, first, n);
     let out = label(lines, tokens, text, w.out, f, labels, block);
     let begun = Walk {
         out: out,
@@ -149,6 +156,7 @@ pub fn lower_block(
         marks,
         block,
         first + n,
+        setter,
     );
     let out = closing(lines, tokens, text, v.out, f, block, leaves);
     Walk {

@@ -1,5 +1,3 @@
-pub mod Parts
-pub mod Statement
 pub mod Block
 pub mod Node
 pub mod View

@@ -12,11 +12,8 @@ cast-at c = search needs
 add-at : tie.Need-add-at
 add-at c = search needs
 
-operands-requires : tie.Need-operands-requires
-operands-requires c κs = search needs
-
-enum-known-p : tie.Need-enum-known-p
-enum-known-p c = search needs
+enum-known-setter : tie.Need-enum-known-setter
+enum-known-setter c = search needs
 
 enum-told : tie.Need-enum-told
 enum-told c = search needs
@@ -31,10 +28,10 @@ same-length-2 : tie.Need-same-length-2
 same-length-2 c = search needs
 
 returns : tie.Need-returns
-returns c = λ E e. by-nothing _ _ _ _ _ _ _ _ (c .before .before .before .before .before .before .before .before .before .operands .ensures) (c .before .before .before .before .before .before .before .before .before .before .offset-of .ensures) E e _ _ (c .before .before .before .before .before .before .before .enum-told .given .1) (c .before .before .before .before .put-flags .ensures)
+returns c = λ E e. by-nothing _ _ _ _ _ _ (c .before .before .before .before .before .before .before .before .before .offset-of .ensures) E e _ _ (c .before .before .before .before .before .before .before .enum-told .given .1) (c .before .before .before .before .put-flags .ensures)
 
 put-compared-requires : tie.Need-put-compared-requires
-put-compared-requires c κs = (c .before .before .before .before .before .before .before .before .before .before .before .before .before .before .pre .0, pair-fits _ _ _ _ _ _ (c .before .before .before .before .before .operands .ensures) (c .before .before .before .p .given .1))
+put-compared-requires c κs = (c .before .before .before .before .before .before .before .before .before .before .before .before .before .pre .0, pair-fits _ _ _ (c .before .before .before .before .before .before .before .before .before .before .before .before .before .pre .1) (c .before .before .before .setter .given .1))
 
 same-length-3 : tie.Need-same-length-3
 same-length-3 c = search needs
@@ -43,7 +40,7 @@ same-length-4 : tie.Need-same-length-4
 same-length-4 c = search needs
 
 returns-2 : tie.Need-returns-2
-returns-2 c = λ E e. by-pair _ _ _ _ _ _ _ _ (c .before .before .before .before .before .before .before .before .before .before .operands .ensures) (c .before .before .before .before .before .before .before .before .before .before .before .offset-of .ensures) E e _ _ _ (c .before .before .before .before .before .before .before .before .p .given .1) (c .before .before .before .before .put-compared .ensures E e)
+returns-2 c = λ E e. by-pair _ _ _ _ _ _ (c .before .before .before .before .before .before .before .before .before .before .offset-of .ensures) E e _ _ _ (c .before .before .before .before .before .before .before .before .setter .given .1) (c .before .before .before .before .put-compared .ensures E e)
 
 pub put-condition-spec : {M : Type 1} → statement M
 put-condition-spec =
@@ -52,8 +49,7 @@ put-condition-spec =
     offset-of-requires
     cast-at
     add-at
-    operands-requires
-    enum-known-p
+    enum-known-setter
     enum-told
     put-flags-requires
     same-length

@@ -1,37 +1,41 @@
-use Rattle.flags.proofs.Settings.{at-flags, at-other, at-rsp, at-assign}
+use Rattle.flags.proofs.Settings.{at-kind, at-none, at-rsp, at-assign}
 use borrow.Author.Needs.{needs}
 use Rattle.flags.proofs.setter.setting_at.Statement.{statement}
 use Rattle.flags.proofs.setter.setting_at.Tie as tie
 
-stmt-kind-requires : tie.Need-stmt-kind-requires
-stmt-kind-requires c κs = search needs
+stmt-at-requires : tie.Need-stmt-at-requires
+stmt-at-requires c κs = search needs
+
+enum-known-kind : tie.Need-enum-known-kind
+enum-known-kind c = search needs
 
 compared-requires : tie.Need-compared-requires
 compared-requires c κs = search needs
 
+enum-known-kind-2 : tie.Need-enum-known-kind-2
+enum-known-kind-2 c = search needs
+
 returns : tie.Need-returns
-returns c = at-flags _ _ _ _ (c .before .before .stmt-kind .ensures) _ (c .before .if1 .taken) (c .compared .ensures)
+returns c = at-rsp _ _ _ _ _ (c .before .before .before .before .before .stmt-at .ensures) _ (c .before .before .before .kind2 .given .1) (c .if1 .taken)
 
 returns-2 : tie.Need-returns-2
-returns-2 c = at-other _ _ _ _ (c .before .before .stmt-kind .ensures) (c .before .if1 .left) (c .if2 .taken)
-
-stmt-field-requires : tie.Need-stmt-field-requires
-stmt-field-requires c κs = search needs
+returns-2 c = at-kind _ _ _ _ _ (c .before .before .before .before .stmt-at .ensures) _ _ (c .before .before .kind .given .1) (c .compared .ensures)
 
 returns-3 : tie.Need-returns-3
-returns-3 c = at-rsp _ _ _ _ (c .before .before .before .before .stmt-kind .ensures) (c .before .before .if2 .left) _ (c .before .stmt-field .ensures) (c .if3 .taken)
+returns-3 c = at-assign _ _ _ _ _ (c .before .before .before .before .before .stmt-at .ensures) _ (c .before .before .before .kind2 .given .1) (c .if1 .left)
 
 returns-4 : tie.Need-returns-4
-returns-4 c = at-assign _ _ _ _ (c .before .before .before .before .stmt-kind .ensures) (c .before .before .if2 .left) _ (c .before .stmt-field .ensures) (c .if3 .left)
+returns-4 c = at-none _ _ _ _ _ (c .before .stmt-at .ensures) (c .match .keys3)
 
 pub setting-at-spec : {M : Type 1} → statement M
 setting-at-spec =
     tie.close
     (tie.spec
-    stmt-kind-requires
+    stmt-at-requires
+    enum-known-kind
     compared-requires
+    enum-known-kind-2
     returns
     returns-2
-    stmt-field-requires
     returns-3
     returns-4)

@@ -6,11 +6,8 @@ use Rattle.jumps.proofs.closing.closing.Tie as tie
 returns : tie.Need-returns
 returns c = λ E. closing-leaves E _ _ _ _ (c .if1 .taken)
 
-block-word-requires : tie.Need-block-word-requires
-block-word-requires c κs = search needs
-
-block-long-requires : tie.Need-block-long-requires
-block-long-requires c κs = search needs
+block-at-requires : tie.Need-block-at-requires
+block-at-requires c κs = search needs
 
 close-to-requires : tie.Need-close-to-requires
 close-to-requires c κs = search needs
@@ -25,13 +22,7 @@ same-length-3 : tie.Need-same-length-3
 same-length-3 c = search needs
 
 returns-2 : tie.Need-returns-2
-returns-2 c = λ E. closing-fall E _ _ _ (c .before .before .before .before .before .before .before .before .before .before .before .before .before .if1 .left) _ (c .before .before .before .before .before .before .before .before .before .before .before .before .block-word .ensures) _ _ _ (c .before .before .before .before .before .before .before .before .before .before .before .if2 .taken) (c .before .before .before .before .before .before .before .block-long .ensures) (c .before .before .before .before .before .before .close-to .ensures E)
-
-block-word-requires-2 : tie.Need-block-word-requires-2
-block-word-requires-2 c κs = search needs
-
-block-long-requires-2 : tie.Need-block-long-requires-2
-block-long-requires-2 c κs = search needs
+returns-2 c = λ E. closing-fall E _ _ _ (c .before .before .before .before .before .before .before .before .before .before .before .before .if1 .left) _ (c .before .before .before .before .before .before .before .before .before .before .before .block-at .ensures) _ _ (c .before .before .before .before .before .before .before .before .before .before .if2 .taken) (c .before .before .before .before .before .before .close-to .ensures E)
 
 close-to-requires-2 : tie.Need-close-to-requires-2
 close-to-requires-2 c κs = search needs
@@ -46,25 +37,22 @@ same-length-6 : tie.Need-same-length-6
 same-length-6 c = search needs
 
 returns-3 : tie.Need-returns-3
-returns-3 c = λ E. closing-taken E _ _ _ (c .before .before .before .before .before .before .before .before .before .before .before .before .before .before .before .if1 .left) _ (c .before .before .before .before .before .before .before .before .before .before .before .before .before .before .block-word .ensures) _ (c .before .before .before .before .before .before .before .before .before .before .before .before .block-word2 .ensures) (c .before .before .before .before .before .before .before .before .before .before .before .before .before .if2 .left) _ _ _ (c .before .before .before .before .before .before .before .before .before .before .before .if3 .taken) (c .before .before .before .before .before .before .before .block-long2 .ensures) (c .before .before .before .before .before .before .close-to2 .ensures E)
+returns-3 c = λ E. closing-taken E _ _ _ (c .before .before .before .before .before .before .before .before .before .before .before .before .before .if1 .left) _ (c .before .before .before .before .before .before .before .before .before .before .before .before .block-at .ensures) (c .before .before .before .before .before .before .before .before .before .before .before .if2 .left) _ _ (c .before .before .before .before .before .before .before .before .before .before .if3 .taken) (c .before .before .before .before .before .before .close-to2 .ensures E)
 
 returns-4 : tie.Need-returns-4
-returns-4 c = λ E. closing-none E _ _ _ (c .before .before .before .before .if1 .left) _ (c .before .before .before .block-word .ensures) _ (c .before .block-word2 .ensures) (c .before .before .if2 .left) _ (c .if3 .left)
+returns-4 c = λ E. closing-none E _ _ _ (c .before .before .before .if1 .left) _ (c .before .before .block-at .ensures) (c .before .if2 .left) _ (c .if3 .left)
 
 pub closing-spec : {M : Type 1} → statement M
 closing-spec =
     tie.close
     (tie.spec
     returns
-    block-word-requires
-    block-long-requires
+    block-at-requires
     close-to-requires
     same-length
     same-length-2
     same-length-3
     returns-2
-    block-word-requires-2
-    block-long-requires-2
     close-to-requires-2
     same-length-4
     same-length-5

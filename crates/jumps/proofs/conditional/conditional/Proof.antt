@@ -7,7 +7,7 @@ test-line-requires : tie.Need-test-line-requires
 test-line-requires c κs = search needs
 
 fall-line-requires : tie.Need-fall-line-requires
-fall-line-requires c κs = c .before .before .before .before .before .before .before .before .before .before .before .before .before .before .before .before .before .before .before .before .before .pre .1 .inside
+fall-line-requires c κs = c .before .before .before .before .before .before .before .before .before .before .before .before .before .before .before .before .before .before .before .before .before .pre .1 .0
 
 same-length : tie.Need-same-length
 same-length c = search needs

@@ -16,28 +16,28 @@ use Rattle.lower.proofs.block.stmts.Statement.{statement}
 use Rattle.lower.proofs.block.stmts.Tie as tie
 
 abbrev Inv-loop : tie.InvT-loop
-Inv-loop lines₀ tokens₀ text₀ f t places numbers offs placed names live phi roots marks block end out₀ item₀ from₀ count₀ i₀ lines tokens text out item from count i = ((E : Edition) → textOf E ≡ t → seenSheet (writeAll (sheetOf lines₀ tokens₀ text₀ out₀) (stmtLines E f block i₀ end i₀ i₀)) ≡ seenSheet (writeAll (sheetOf lines tokens text out) (stmtLines E f block i₀ end from i))) × ((E : Edition) → count ≡ countSet (setSince E f i₀ (i - i₀)) (read E f .args)) × (item ≡ firstItem f i) × (from ≤ i) × (i₀ ≤ i) × (i ≤ end) × (i₀ ≡ firstStmt f block) × (length lines ≡ length lines₀) × (length tokens ≡ length tokens₀) × (length text ≡ length text₀)
+Inv-loop lines₀ tokens₀ text₀ f t places numbers offs placed names live phi roots marks block end setter out₀ item₀ from₀ count₀ i₀ lines tokens text out item from count i = ((E : Edition) → textOf E ≡ t → seenSheet (writeAll (sheetOf lines₀ tokens₀ text₀ out₀) (stmtLines E f block i₀ end i₀ i₀)) ≡ seenSheet (writeAll (sheetOf lines tokens text out) (stmtLines E f block i₀ end from i))) × ((E : Edition) → count ≡ countSet (setSince E f i₀ (i - i₀)) (read E f .args)) × (item ≡ firstItem f i) × (from ≤ i) × (i₀ ≤ i) × (i ≤ end) × (i₀ ≡ firstStmt f block) × (length lines ≡ length lines₀) × (length tokens ≡ length tokens₀) × (length text ≡ length text₀)
 
 abbrev μ-loop : tie.MeasureT-loop
-μ-loop lines₀ tokens₀ text₀ f t places numbers offs placed names live phi roots marks block end out₀ item₀ from₀ count₀ i₀ lines tokens text out item from count i = end - i
+μ-loop lines₀ tokens₀ text₀ f t places numbers offs placed names live phi roots marks block end setter out₀ item₀ from₀ count₀ i₀ lines tokens text out item from count i = end - i
 
 loop-holds : tie.Need-loop-holds Inv-loop μ-loop
-loop-holds c = ((λ E s. refl), (λ E. count-first E _ _), stands-item _ _ _ (c .before .before .before .before .before .before .before .before .before .before .before .before .before .pre .1 .1), omega arith, omega arith, omega (arith, c .before .before .before .before .before .before .before .before .before .before .before .before .before .pre .1 .1 .here, c .before .before .before .before .before .before .before .before .before .before .before .before .before .pre .1 .2), c .before .before .before .before .before .before .before .before .before .before .before .before .before .pre .1 .1 .here, refl, refl, refl)
+loop-holds c = ((λ E s. refl), (λ E. count-first E _ _), stands-item _ _ _ (c .before .before .before .before .before .before .before .before .before .before .before .before .before .pre .1 .0 .1), omega arith, omega arith, omega (arith, c .before .before .before .before .before .before .before .before .before .before .before .before .before .pre .1 .0 .1 .here, c .before .before .before .before .before .before .before .before .before .before .before .before .before .pre .1 .0 .2), c .before .before .before .before .before .before .before .before .before .before .before .before .before .pre .1 .0 .1 .here, refl, refl, refl)
 
 stmt-requires : tie.Need-stmt-requires Inv-loop μ-loop
-stmt-requires c κs = let inv = c .before .before .before .before .loop .inv in (c .before .before .before .before .before .before .before .before .before .before .before .before .before .before .before .before .before .before .pre .0, record { inside = c .before .before .before .before .before .before .before .before .before .before .before .before .before .before .before .before .before .before .pre .1 .0; start = omega (arith, inv .4, inv .6); before-end = c .before .before .before .loop-test .taken; ends = c .before .before .before .before .before .before .before .before .before .before .before .before .before .before .before .before .before .before .pre .1 .2; first = inv .2; waits = inv .3 })
+stmt-requires c κs = let inv = c .before .before .before .before .loop .inv in (c .before .before .before .before .before .before .before .before .before .before .before .before .before .before .before .before .before .before .pre .0, (record { inside = c .before .before .before .before .before .before .before .before .before .before .before .before .before .before .before .before .before .before .pre .1 .0 .0; start = omega (arith, inv .4, inv .6); before-end = c .before .before .before .loop-test .taken; ends = c .before .before .before .before .before .before .before .before .before .before .before .before .before .before .before .before .before .before .pre .1 .0 .2; first = inv .2; waits = inv .3 }, c .before .before .before .before .before .before .before .before .before .before .before .before .before .before .before .before .before .before .pre .1 .1))
 
 next-item-requires : tie.Need-next-item-requires Inv-loop μ-loop
-next-item-requires c κs = (c .before .before .before .before .before .before .before .before .before .before .before .before .before .before .before .before .before .before .before .before .before .before .before .before .before .pre .0 .told .ground .counts, in-block _ (c .before .before .before .before .before .before .before .before .before .before .before .before .before .before .before .before .before .before .before .before .before .before .before .before .before .pre .0 .told .ground .counts) _ _ _ (c .before .before .before .before .before .before .before .before .before .before .before .before .before .before .before .before .before .before .before .before .before .before .before .before .before .pre .1 .0) (c .before .before .before .before .before .before .before .before .before .before .before .before .before .before .before .before .before .before .before .before .before .before .before .before .before .pre .1 .2) (c .before .before .before .before .before .before .before .before .before .before .loop-test .taken), c .before .before .before .before .before .before .before .before .before .before .before .loop .inv .2)
+next-item-requires c κs = (c .before .before .before .before .before .before .before .before .before .before .before .before .before .before .before .before .before .before .before .before .before .before .before .before .before .pre .0 .told .ground .counts, in-block _ (c .before .before .before .before .before .before .before .before .before .before .before .before .before .before .before .before .before .before .before .before .before .before .before .before .before .pre .0 .told .ground .counts) _ _ _ (c .before .before .before .before .before .before .before .before .before .before .before .before .before .before .before .before .before .before .before .before .before .before .before .before .before .pre .1 .0 .0) (c .before .before .before .before .before .before .before .before .before .before .before .before .before .before .before .before .before .before .before .before .before .before .before .before .before .pre .1 .0 .2) (c .before .before .before .before .before .before .before .before .before .before .loop-test .taken), c .before .before .before .before .before .before .before .before .before .before .before .loop .inv .2)
 
 from-behind-requires : tie.Need-from-behind-requires Inv-loop μ-loop
-from-behind-requires c κs = index-small _ (c .before .before .before .before .before .before .before .before .before .before .before .before .before .before .before .before .before .before .before .before .before .before .shared-slice-known .given) _ (in-block _ (c .before .before .before .before .before .before .before .before .before .before .before .before .before .before .before .before .before .before .before .before .before .before .before .before .before .before .pre .0 .told .ground .counts) _ _ _ (c .before .before .before .before .before .before .before .before .before .before .before .before .before .before .before .before .before .before .before .before .before .before .before .before .before .before .pre .1 .0) (c .before .before .before .before .before .before .before .before .before .before .before .before .before .before .before .before .before .before .before .before .before .before .before .before .before .before .pre .1 .2) (c .before .before .before .before .before .before .before .before .before .before .before .loop-test .taken))
+from-behind-requires c κs = index-small _ (c .before .before .before .before .before .before .before .before .before .before .before .before .before .before .before .before .before .before .before .before .before .before .shared-slice-known .given) _ (in-block _ (c .before .before .before .before .before .before .before .before .before .before .before .before .before .before .before .before .before .before .before .before .before .before .before .before .before .before .pre .0 .told .ground .counts) _ _ _ (c .before .before .before .before .before .before .before .before .before .before .before .before .before .before .before .before .before .before .before .before .before .before .before .before .before .before .pre .1 .0 .0) (c .before .before .before .before .before .before .before .before .before .before .before .before .before .before .before .before .before .before .before .before .before .before .before .before .before .before .pre .1 .0 .2) (c .before .before .before .before .before .before .before .before .before .before .before .loop-test .taken))
 
 set-behind-requires : tie.Need-set-behind-requires Inv-loop μ-loop
 set-behind-requires c κs = search needs
 
 add-i : tie.Need-add-i Inv-loop μ-loop
-add-i c = omega (arith, index-small (c .before .before .before .before .before .before .before .before .before .before .before .before .before .before .before .before .before .before .before .before .before .before .before .before .before .before .before .before .args .f .now) (c .before .before .before .before .before .before .before .before .before .before .before .before .before .before .before .before .before .before .before .before .before .before .before .before .shared-slice-known .given) (c .before .before .before .before .before .before .before .before .before .before .before .before .before .before .loop .i) (in-block (c .before .before .before .before .before .before .before .before .before .before .before .before .before .before .before .before .before .before .before .before .before .before .before .before .before .before .before .before .args .f .now) (c .before .before .before .before .before .before .before .before .before .before .before .before .before .before .before .before .before .before .before .before .before .before .before .before .before .before .before .before .pre .0 .told .ground .counts) (c .before .before .before .before .before .before .before .before .before .before .before .before .before .before .before .before .before .before .before .before .before .before .before .before .before .before .before .before .args .block) (c .before .before .before .before .before .before .before .before .before .before .before .before .before .before .before .before .before .before .before .before .before .before .before .before .before .before .before .before .args .end) (c .before .before .before .before .before .before .before .before .before .before .before .before .before .before .loop .i) (c .before .before .before .before .before .before .before .before .before .before .before .before .before .before .before .before .before .before .before .before .before .before .before .before .before .before .before .before .pre .1 .0) (c .before .before .before .before .before .before .before .before .before .before .before .before .before .before .before .before .before .before .before .before .before .before .before .before .before .before .before .before .pre .1 .2) (c .before .before .before .before .before .before .before .before .before .before .before .before .before .loop-test .taken)))
+add-i c = omega (arith, index-small (c .before .before .before .before .before .before .before .before .before .before .before .before .before .before .before .before .before .before .before .before .before .before .before .before .before .before .before .before .args .f .now) (c .before .before .before .before .before .before .before .before .before .before .before .before .before .before .before .before .before .before .before .before .before .before .before .before .shared-slice-known .given) (c .before .before .before .before .before .before .before .before .before .before .before .before .before .before .loop .i) (in-block (c .before .before .before .before .before .before .before .before .before .before .before .before .before .before .before .before .before .before .before .before .before .before .before .before .before .before .before .before .args .f .now) (c .before .before .before .before .before .before .before .before .before .before .before .before .before .before .before .before .before .before .before .before .before .before .before .before .before .before .before .before .pre .0 .told .ground .counts) (c .before .before .before .before .before .before .before .before .before .before .before .before .before .before .before .before .before .before .before .before .before .before .before .before .before .before .before .before .args .block) (c .before .before .before .before .before .before .before .before .before .before .before .before .before .before .before .before .before .before .before .before .before .before .before .before .before .before .before .before .args .end) (c .before .before .before .before .before .before .before .before .before .before .before .before .before .before .loop .i) (c .before .before .before .before .before .before .before .before .before .before .before .before .before .before .before .before .before .before .before .before .before .before .before .before .before .before .before .before .pre .1 .0 .0) (c .before .before .before .before .before .before .before .before .before .before .before .before .before .before .before .before .before .before .before .before .before .before .before .before .before .before .before .before .pre .1 .0 .2) (c .before .before .before .before .before .before .before .before .before .before .before .before .before .loop-test .taken)))
 
 loop-less : tie.Need-loop-less Inv-loop μ-loop
 loop-less c = omega (arith, c .before .before .before .before .before .before .before .before .before .before .before .before .before .loop-test .taken)
@@ -55,7 +55,7 @@ same-length-3 : tie.Need-same-length-3 Inv-loop μ-loop
 same-length-3 c = c .before .loop .inv .9
 
 returns : tie.Need-returns Inv-loop μ-loop
-returns c = let inv = c .before .loop .inv in (stands-end _ _ _ _ _ (inv .5) (c .loop-test .left) (inv .2), (λ E s. stmts-end E _ _ _ _ _ _ _ _ (c .loop-test .left) (inv .6) (c .before .before .before .before .before .before .before .before .before .before .before .before .before .before .before .pre .1 .2) (inv .0 E s)))
+returns c = let inv = c .before .loop .inv in (stands-end _ _ _ _ _ (inv .5) (c .loop-test .left) (inv .2), (λ E s. stmts-end E _ _ _ _ _ _ _ _ (c .loop-test .left) (inv .6) (c .before .before .before .before .before .before .before .before .before .before .before .before .before .before .before .pre .1 .0 .2) (inv .0 E s)))
 
 pub stmts-spec : {M : Type 1} → statement M
 stmts-spec =

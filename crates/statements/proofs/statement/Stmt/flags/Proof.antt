@@ -1,0 +1,9 @@
+use Rattle.statements.proofs.Laws.{mark-is}
+use Rattle.statements.proofs.statement.Stmt.flags.Statement.{statement}
+use Rattle.statements.proofs.statement.Stmt.flags.Tie as tie
+
+returns : tie.Need-returns
+returns c = mark-is _
+
+pub flags-spec : {M : Type 1} → statement M
+flags-spec = tie.close (tie.spec returns)
