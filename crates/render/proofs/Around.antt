@@ -25,7 +25,7 @@ use Rattle.ssa.specs.declared.node.Un.{Un as UnS}
 use Rattle.ssa.specs.declared.node.Load.{Load as LoadS}
 use Rattle.room.specs.declared.out.Out.{Out}
 use Rattle.room.specs.Room.{Room, roomOf, isFull, emit, emitAll, seen}
-use Rattle.room.proofs.Laws.{next, more, full-stays}
+use Rattle.room.proofs.Laws.{next, more, full-stays, one}
 use Rattle.render.specs.declared.form.Leaf.{Leaf as LeafS}
 use Rattle.render.specs.declared.form.Form.{Form}
 use Rattle.render.specs.declared.form.Form.the-variants.{Leaf, Use, Bin, Un, Through}
@@ -34,7 +34,6 @@ use Rattle.render.specs.Told.{NamedAt}
 use Rattle.render.specs.Forms.{renderedBelow, castTokens, opening, closing, leafTokens, formTokens, formOf}
 use Rattle.render.proofs.Formed.{below-past, below-in, below-all, form-is, use-form}
 use Rattle.render.proofs.Valued.{use-value, use-named}
-use Rattle.render.proofs.Written.{one}
 
 pub stays : (k b : List ℕ) (o : Out) (ps : List Token) → o .full ≡ true → seen (roomOf k b o) ≡ seen (emitAll (roomOf k b o) ps)
 unfolding isFull

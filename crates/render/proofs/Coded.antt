@@ -21,12 +21,9 @@ use Rattle.classes.proofs.Theorems.{root-register}
 use Rattle.names.specs.Codes.{codeText, nameText, nameCode}
 use Rattle.names.proofs.Texts.{names-are}
 use Rattle.room.specs.Room.{Room, emit}
+use Rattle.room.proofs.Laws.{piece-as}
 use Rattle.render.specs.Gens.{genAt}
 use Rattle.render.proofs.Opening.{gen-bits, gen-names}
-
--- a piece with an equal text
-same-piece : (x y : Room) (k : ℕ) (s t : List ℕ) → x ≡ emit y (tok k s) → s ≡ t → x ≡ emit y (tok k t)
-same-piece x y k s t e p = rw (← p) e
 
 module _ (bits r c : ℕ) where
   own-name : c < 2 → regName bits r ≡ nameOr (regName bits r) (nameText bits r c)
@@ -48,13 +45,13 @@ module _ (bits r c : ℕ) where
   -- the returns of `put_code`
   module _ (x y : Room) where
     pub code-own : c < 2 → x ≡ emit y (tok 1 (regName bits r)) → x ≡ emit y (tok 1 (nameOr (regName bits r) (nameText bits r c)))
-    code-own h e = same-piece x y 1 _ _ e (own-name h)
+    code-own h e = piece-as y x 1 _ _ e (own-name h)
 
     pub code-a : 2 ≤ c → c % 2 ≡ 0 → x ≡ emit y (tok 1 (txt "a" ++ decimal (c / 2))) → x ≡ emit y (tok 1 (nameOr (regName bits r) (nameText bits r c)))
-    code-a h q e = same-piece x y 1 _ _ e (letter-a h q)
+    code-a h q e = piece-as y x 1 _ _ e (letter-a h q)
 
     pub code-v : 2 ≤ c → (c % 2 ≡ 0 → ⊥) → x ≡ emit y (tok 1 (txt "v" ++ decimal (c / 2))) → x ≡ emit y (tok 1 (nameOr (regName bits r) (nameText bits r c)))
-    code-v h q e = same-piece x y 1 _ _ e (letter-v h q)
+    code-v h q e = piece-as y x 1 _ _ e (letter-v h q)
 
 -- a value's variable is what its code says
 pub variable-coded : (E : Edition) (f : List ℕ) (pos : ℕ) (v : Value)

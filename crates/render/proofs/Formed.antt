@@ -2,12 +2,10 @@
 use mathlib.Core.Path.{_≡_, refl, sym, ap, ap₂, _∙_}
 use mathlib.Core.Bool.{Bool, true, false, cond, _&&_}
 use mathlib.Core.Option.{none, some}
-use mathlib.Core.List.{List, [], _∷_, _++_}
-use Prim.Native.Nat.{ℕ, zero, suc, _≤_, _<_}
+use mathlib.Core.List.{List, [], _∷_}
+use Prim.Native.Nat.{ℕ, suc, _≤_, _<_}
 use native.Mathlib.Omega.{arith}
 use lib.Dec.{eqb, ltb}
-use lib.ListN.{length, length-append, List·getD-append, List·getD-eq-default}
-use lib.Seq.{getD-at}
 use borrow.Author.Tests.{lt-ltb, le-ltb, ltb-true, ltb-false, eqb-true, ne-eqb}
 use Rattle.definition.specs.Codes.{tConst}
 use Rattle.definition.specs.Edition.{Edition, expressions}
@@ -20,6 +18,7 @@ use Rattle.definition.specs.Offsets.{Known, look, offsets, stackOff}
 use Rattle.definition.specs.Tokens.{Token, textual, punct}
 use Rattle.definition.specs.Render.{Gen, expr, addressOr, through, slotOr, globalOf, globalOr}
 use Rattle.definition.proofs.Bools.{by-test, by-cond}
+use Rattle.records.proofs.Trees.{tree-lower, tree-past}
 use Rattle.values.specs.Tables.{table}
 use Rattle.text.specs.Supplied.{isGlobal, globalText}
 use Rattle.text.proofs.Lookups.{global-is}
@@ -92,27 +91,9 @@ module _ (E : Edition) (f : List ℕ) (n r : ℕ) where
 
 -- ---- the trees of a file
 module _ (E : Edition) (f : List ℕ) where
-  trees-length : (n : ℕ) → length (trees E f n) ≡ n
-  unfolding trees
-  trees-length zero = refl
-  trees-length (suc n) = omega (arith, length-append (trees E f n) (tree E f (trees E f n) n ∷ []), trees-length n)
-
   -- each is its record's, with the trees below it
   trees-at : (n i : ℕ) → treeAt (trees E f n) i ≡ cond (ltb i n) (tree E f (trees E f i) i) (DOpaque [])
-  unfolding trees
-  trees-at zero i = rw (le-ltb i 0 (omega arith))
-  trees-at (suc n) i = go (trees-at n i) (by-test (ltb i n) (λ e. yes (ltb-true i n e)) (λ e. no (λ h. omega (arith, ltb-false i n e))))
-    where
-      go : treeAt (trees E f n) i ≡ cond (ltb i n) (tree E f (trees E f i) i) (DOpaque []) → Dec (i < n)
-          → treeAt (trees E f n ++ (tree E f (trees E f n) n ∷ [])) i ≡ cond (ltb i (suc n)) (tree E f (trees E f i) i) (DOpaque [])
-      go h (yes l) = rw (lt-ltb i (suc n) (omega arith)) (List·getD-append (trees E f n) _ (DOpaque []) i (omega (arith, trees-length n)) ∙ h ∙ rw (lt-ltb i n l))
-      go h (no l) =
-          by-test (ltb i (suc n))
-          (λ e.
-          let q : i ≡ n = omega (arith, ltb-true i (suc n) e) in
-          rw e (getD-at (trees E f n) _ [] (DOpaque []) i (trees-length n ∙ sym q) ∙ ap (λ (m : ℕ). tree E f (trees E f m) m) (sym q)))
-          (λ e. rw e (List·getD-eq-default (trees E f n ++ (tree E f (trees E f n) n ∷ [])) (DOpaque [])
-          (omega (arith, ltb-false i (suc n) e, trees-length n, length-append (trees E f n) (tree E f (trees E f n) n ∷ [])))))
+  trees-at n i = by-test (ltb i n) (λ e. rw e (tree-lower E f n i (ltb-true i n e))) (λ e. rw e (tree-past E f n i (ltb-false i n e)))
 
   -- an expression of the file, and a child of it
   tree-node : (n : ℕ) → n < size f expressions → treeAt (allTrees E f) n ≡ viewNode E f (trees E f n) (nodeRecord f n)

@@ -27,7 +27,7 @@ use Rattle.definition.specs.Render.{Opened, Gen, openedAt, expr, openNext, open
 use Rattle.definition.specs.Blocks.{lowering}
 use Rattle.definition.proofs.Bools.{by-test, or-cases, both-true, both-false, none-some}
 use Rattle.definition.proofs.ListLaws.{Each, end, _▸_, each-to, only-each}
-use Rattle.values.proofs.Tables.{eqv-true}
+use Rattle.definition.proofs.Equal.{eqv-true}
 use Rattle.inline.specs.Placing.{Placed, allPlaced, placeOf}
 use Rattle.inline.proofs.Forgetting.{stand, forgotten, in-place}
 use Rattle.inline.proofs.Rising.{Rising, rises, places-inside}

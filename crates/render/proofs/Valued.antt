@@ -35,13 +35,13 @@ use Rattle.offsets.proofs.Naming.{expr-inside}
 use Rattle.inline.specs.Placing.{placeOf}
 use Rattle.names.specs.Codes.{nameText, nameCode}
 use Rattle.room.specs.Room.{Room, emit, emitAll, seen}
+use Rattle.room.proofs.Laws.{one}
 use Rattle.render.specs.Gens.{genAt, rendered, used}
 use Rattle.render.specs.Told.{Told, NamedAt}
 use Rattle.render.specs.Forms.{opens, renderedBelow, addressTokens}
 use Rattle.render.proofs.Opening.{Before, open-before, gen-offsets, opened-at}
 use Rattle.render.proofs.Coded.{variable-coded}
 use Rattle.render.proofs.Formed.{below-all}
-use Rattle.render.proofs.Written.{one}
 use Rattle.render.proofs.Falling.{falls-back}
 
 -- ---- whether a place is open

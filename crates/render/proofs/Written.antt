@@ -13,15 +13,11 @@ use Rattle.definition.specs.Render.{pointer, operator}
 use Rattle.text.specs.Supplied.{globalText}
 use Rattle.ssa.specs.declared.parts.Text.{Text}
 use Rattle.room.specs.Room.{Room, emit, emitAll, seen}
-use Rattle.room.proofs.Laws.{next, done, joined}
+use Rattle.room.proofs.Laws.{next, done, joined, one}
 use Rattle.render.specs.declared.form.Leaf.{Leaf}
 use Rattle.render.specs.declared.form.Leaf.the-variants.{Number, Address, Global, Slot, Opaque}
 use Rattle.render.specs.declared.form.Global.{Global as GlobalS}
 use Rattle.render.specs.Forms.{addressTokens, castTokens, opening, closing, leafTokens}
-
--- one piece, as a list
-pub one : (r₁ r₀ : Room) (p : Token) → r₁ ≡ emit r₀ p → seen r₁ ≡ seen (emitAll r₀ (p ∷ []))
-one r₁ r₀ p e = next r₁ r₀ p [] e (done r₁)
 
 two : (r₂ r₁ r₀ : Room) (p q : Token) → r₁ ≡ emit r₀ p → r₂ ≡ emit r₁ q → seen r₂ ≡ seen (emitAll r₀ (p ∷ q ∷ []))
 two r₂ r₁ r₀ p q d e = next r₂ r₀ p (q ∷ []) d (one r₂ r₁ q e)

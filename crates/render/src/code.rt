@@ -1,6 +1,7 @@
 // The name that a code says, as a token.
 use room::out::Out;
-use room::put::put_counted;
+use room::put::put_local;
+use room::put::put_param;
 use room::put::put_reg;
 ghost use mathlib.Core.Path.{_≡_};
 ghost use Rattle.definition.specs.Lookup.{nameOr};
@@ -25,7 +26,7 @@ pub fn put_code(
         return put_reg(tokens, text, out, bits, reg);
     }
     if code % 2 == 0 {
-        return put_counted(tokens, text, out, b"a", (code / 2) as u64);
+        return put_param(tokens, text, out, (code / 2) as u64);
     }
-    put_counted(tokens, text, out, b"v", (code / 2) as u64)
+    put_local(tokens, text, out, (code / 2) as u64)
 }

@@ -9,17 +9,13 @@ use borrow.Rule.Slice.PartMut.{putMid, midOf, put-same}
 use lib.Dec.{leb}
 use lib.ListN.{length, take, drop}
 use lib.Seq.{drop-drop}
-use Rattle.definition.specs.Numbers.{decimal}
 use Rattle.definition.specs.Tokens.{Token, tok}
 use Rattle.definition.proofs.Bools.{both-true, by-test}
 use Rattle.digits.specs.declared.leaf.Wrote.{Wrote}
 use Rattle.digits.specs.declared.leaf.Wrote.the-variants.{Bytes, NoRoom}
-use Rattle.digits.specs.declared.numbers.Radix.the-variants.{Decimal}
 use Rattle.digits.specs.Leaf.{Leaf}
-use Rattle.digits.specs.Numeral.{numeral}
 use Rattle.digits.proofs.Rest.{rest-is, rest-back, rest-length}
 use Rattle.digits.proofs.Leaves.{leaf-none, leaf-bytes}
-use Rattle.digits.proofs.Texts.{decimal-is}
 use Rattle.room.specs.declared.out.Out.{Out}
 use Rattle.room.specs.Room.{Room, roomOf, textMost, stopped, isFull, paste, isReady, fits, placed, emit}
 use Rattle.room.specs.Placing.{withToken, afterToken, endOf, Placeable}
@@ -76,10 +72,6 @@ module _ (r : Room) (p : Token) where
   emit-stays h = rw h
 
 -- ---- the calls of a writer's caller
--- a front and a number, as the definition has it
-pub counted-is : (front : List ℕ) (k : ℕ) → front ++ numeral Decimal k ≡ front ++ decimal k
-counted-is front k = ap (λ (l : List ℕ). front ++ l) (decimal-is k)
-
 module _ (ks t : List ℕ) (o : Out) (k : ℕ) where
   -- there was no place
   pub emit-not : (x : List ℕ) (r : Out) (b : Bool) → b ≡ isReady ks (length t) o k → b ≡ false → r ≡ stopped o

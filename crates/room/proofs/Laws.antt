@@ -49,10 +49,6 @@ lines-stay s [] h = refl
 lines-stay s (x ∷ xs) h = ap (λ (u : Sheet). writeAll u xs) (line-stays s x h) ∙ lines-stay s xs h
 
 -- ---- so only what is seen counts
-pub seen-emit : (r q : Room) (p : Token) → seen r ≡ seen q → seen (emit r p) ≡ seen (emit q p)
-unfolding seen
-seen-emit r q p e = by-seen isFull (λ z. emit z p) (λ z. emit-stays z p) r q e
-
 pub seen-emits : (r q : Room) (ps : List Token) → seen r ≡ seen q → seen (emitAll r ps) ≡ seen (emitAll q ps)
 unfolding seen
 seen-emits r q ps e = by-seen isFull (λ z. emitAll z ps) (λ z. emits-stay z ps) r q e
@@ -61,10 +57,6 @@ module _ (s u : Sheet) (same : seenSheet s ≡ seenSheet u) where
   pub seen-end : (n : ℕ) (a : Option ℕ) → seenSheet (endLine s n a) ≡ seenSheet (endLine u n a)
   unfolding seenSheet
   seen-end n a = by-seen (λ z. isFull (z .room)) (λ z. endLine z n a) (λ z. end-stays z n a) s u same
-
-  pub seen-line : (x : Line) → seenSheet (writeLine s x) ≡ seenSheet (writeLine u x)
-  unfolding seenSheet
-  seen-line x = by-seen (λ z. isFull (z .room)) (λ z. writeLine z x) (λ z. line-stays z x) s u same
 
   pub seen-lines : (xs : List Line) → seenSheet (writeAll s xs) ≡ seenSheet (writeAll u xs)
   unfolding seenSheet
@@ -124,6 +116,17 @@ sheet-seen l r q e =
     (λ h. by-test (isFull q) (λ k. rw (h, k)) (λ k. none-some (rw (h, k) at e)))
     (λ h. by-test (isFull q) (λ k. none-some (sym (rw (h, k) at e))) (λ k. ap (λ (z : Room). seenSheet (record { lines = l; room = z })) (Option·some-injective _ _ (rw (h, k) at e))))
 
+-- one piece, as a list
+pub one : (r₁ r₀ : Room) (p : Token) → r₁ ≡ emit r₀ p → seen r₁ ≡ seen (emitAll r₀ (p ∷ []))
+one r₁ r₀ p e = next r₁ r₀ p [] e (done r₁)
+
+-- the same piece, and the same pieces, named otherwise
+pub piece-as : (x y : Room) (k : ℕ) (s t : List ℕ) → y ≡ emit x (tok k s) → s ≡ t → y ≡ emit x (tok k t)
+piece-as x y k s t e h = rw (← h) e
+
+pub pieces-are : (r r₀ : Room) (ps qs : List Token) → seen r ≡ seen (emitAll r₀ ps) → ps ≡ qs → seen r ≡ seen (emitAll r₀ qs)
+pieces-are r r₀ ps qs h p = rw (← p) h
+
 -- a line ended behind its pieces is that line
 pub line-ends : (l l′ : List ℕ) (r₀ r₁ : Room) (o : Out) (n : ℕ) (a : Option ℕ) (ps : List Token)
     → seen r₁ ≡ seen (emitAll r₀ ps) → Ended l (r₁ .out) n a l′ o
@@ -142,6 +145,3 @@ writes s₂ s₁ s₀ xs ys a b = b ∙ seen-lines s₁ (writeAll s₀ xs) a ys 
 pub written-none : (s : Sheet) → seenSheet s ≡ seenSheet (writeAll s [])
 unfolding writeAll
 written-none s = refl
-
-pub sheet-stays : (s : Sheet) (xs : List Line) → isFull (s .room) ≡ true → seenSheet s ≡ seenSheet (writeAll s xs)
-sheet-stays s xs h = ap seenSheet (sym (lines-stay s xs h))

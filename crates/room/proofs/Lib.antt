@@ -8,3 +8,4 @@ pub mod Words
 pub mod Proper
 pub mod View
 pub mod Unique
+pub mod Spelling

@@ -1,5 +1,5 @@
 -- Each contract of this crate determines the answer and what is left in the lent buffers, so no second result meets it. One line for each public
--- function; those that put a piece have one contract, which differs in the piece alone.
+-- function; those that put a piece have one contract, which differs in the piece alone, and part_behind has a leaf's, of which digits says it.
 use mathlib.Core.Path.{_≡_, sym, ap, _∙_}
 use mathlib.Core.Bool.{Bool}
 use mathlib.Core.Option.{Option}
@@ -7,8 +7,6 @@ use mathlib.Core.List.{List, []}
 use Prim.Native.Nat.{ℕ}
 use Rattle.definition.specs.Tokens.{Token}
 use Rattle.digits.specs.declared.leaf.Wrote.{Wrote}
-use Rattle.digits.specs.Leaf.{Leaf}
-use Rattle.digits.proofs.Unique.{leaf}
 use Rattle.text.proofs.Unique.{equation}
 use Rattle.room.specs.declared.out.Out.{Out}
 use Rattle.room.specs.Room.{Room, Sheet, roomOf, stopped, isReady, emit}
@@ -16,7 +14,7 @@ use Rattle.room.specs.Placing.{withToken, afterToken}
 use Rattle.room.specs.Ending.{Ended}
 use Rattle.room.specs.Blank.{fresh}
 
--- put, put_num, put_slot, put_label, put_outward, put_pointer, put_reg, put_counted, put_part, put_name, put_global, put_flags
+-- put_piece, and what is put by it: put, put_made, put_num, put_slot, put_label, put_outward, put_pointer, put_reg, put_param, put_local, put_part, put_name, put_global, put_flags
 pub piece : (x : Room) (p : Token) (k k′ t t′ : List ℕ) (r r′ : Out) → roomOf k t r ≡ emit x p → roomOf k′ t′ r′ ≡ emit x p → (k ≡ k′) × (t ≡ t′) × (r ≡ r′)
 piece x p k k′ t t′ r r′ e f =
     let z : roomOf k t r ≡ roomOf k′ t′ r′ = e ∙ sym f in
@@ -39,6 +37,3 @@ stop o = equation (stopped o)
 
 pub start : (r s : Out) → r ≡ fresh → s ≡ fresh → r ≡ s
 start = equation fresh
-
-pub part-behind : (t d : List ℕ) (r s : Wrote) (e e′ : List ℕ) → Leaf t d r e → Leaf t d s e′ → (r ≡ s) × (e ≡ e′)
-part-behind = leaf

@@ -18,12 +18,13 @@ use Rattle.definition.specs.Listing.{hasAddress, addressOf, tokenCount, byteCou
 use Rattle.definition.proofs.Bools.{by-test, both-false, is-true}
 use Rattle.definition.proofs.ListLaws.{Each, _▸_}
 use Rattle.definition.proofs.Merge.{size, size-append, text-append}
+use Rattle.records.proofs.Padded.{padded-set, length-padded}
 use Rattle.room.specs.declared.out.Out.{Out}
 use Rattle.room.specs.Room.{Room, Sheet, roomOf, textMost, isFull, stopped, paste, sound, goesOn, slotAt, isReady, placed, emit, emitAll, lineRow, ended, endLine, writeLine, writeAll, seenSheet}
 use Rattle.room.specs.Blank.{fresh, blank, filled}
 use Rattle.room.proofs.Placing.{Sound, sound-holds, goes-first, slot-new}
 use Rattle.room.proofs.Emits.{fits-holds, fits-no-place, fits-too-long, emit-fits, stops-full, emit-stays}
-use Rattle.room.proofs.Pastes.{padded-paste, padded-set, length-padded}
+use Rattle.room.proofs.Pastes.{padded-paste}
 use Rattle.room.proofs.Joining.{kind-of}
 use Rattle.room.proofs.Laws.{end-stays, line-stays}
 use Rattle.room.proofs.Words.{words-length, words-snoc, size-one, tokens-snoc, token-count, byte-count, rows-length, rows-snoc}

@@ -2,3 +2,4 @@ pub mod Room
 pub mod Placing
 pub mod Ending
 pub mod Blank
+pub mod Spelled

@@ -1,12 +1,10 @@
 // Pieces whose text stands in the file, or behind a front that does.
-use crate::fronted::part_behind;
 use crate::out::Out;
-use crate::place::ready;
-use crate::place::stop;
-use crate::place::token;
-use digits::leaf::copy_part;
-use text::names::global_name;
-use text::names::name_text;
+use crate::piece::Bytes;
+use crate::piece::Global;
+use crate::piece::Piece;
+use crate::piece::Supplied;
+use crate::piece::put_piece;
 ghost use mathlib.Core.Path.{_≡_};
 ghost use mathlib.Core.List.{_++_};
 ghost use Rattle.definition.specs.Texts.{txt};
@@ -28,12 +26,7 @@ pub fn put_part(
     ensures { λ r. ⌜ roomOf (now (tokens .exit)) (now (text .exit)) r
         ≡ emit (roomOf (now (tokens .entry)) (now (text .entry)) out) (tok kind (part (now (f .entry)) at n)) ⌝ }
 {
-    if ready(tokens, text.len(), out, kind) {
-        let from = out.bytes;
-        let wrote = copy_part(&mut text[from..], f, at, n);
-        return token(tokens, out, kind, wrote);
-    }
-    stop(out)
+    put_piece(tokens, text, out, kind, f, Piece::Part(Bytes { at, n }))
 }
 
 // Name i that the file supplies, whose text is in section t.
@@ -49,12 +42,7 @@ pub fn put_name(
     ensures { λ r. ⌜ roomOf (now (tokens .exit)) (now (text .exit)) r
         ≡ emit (roomOf (now (tokens .entry)) (now (text .entry)) out) (tok kind (nameText (now (f .entry)) t i)) ⌝ }
 {
-    if ready(tokens, text.len(), out, kind) {
-        let from = out.bytes;
-        let wrote = name_text(&mut text[from..], f, t, i);
-        return token(tokens, out, kind, wrote);
-    }
-    stop(out)
+    put_piece(tokens, text, out, kind, f, Piece::Name(Supplied { t, i }))
 }
 
 // The global at c: its name, or else its size's prefix and c.
@@ -70,12 +58,14 @@ pub fn put_global(
     ensures { λ r. ⌜ roomOf (now (tokens .exit)) (now (text .exit)) r
         ≡ emit (roomOf (now (tokens .entry)) (now (text .entry)) out) (tok 4 (globalText (now (f .entry)) t c size)) ⌝ }
 {
-    if ready(tokens, text.len(), out, 4) {
-        let from = out.bytes;
-        let wrote = global_name(&mut text[from..], f, t, c, size);
-        return token(tokens, out, 4, wrote);
-    }
-    stop(out)
+    put_piece(
+        tokens,
+        text,
+        out,
+        4,
+        f,
+        Piece::Global(Global { t, c, size }),
+    )
 }
 
 // A condition that is not known, by its name in the file.
@@ -90,10 +80,5 @@ pub fn put_flags(
     ensures { λ r. ⌜ roomOf (now (tokens .exit)) (now (text .exit)) r
         ≡ emit (roomOf (now (tokens .entry)) (now (text .entry)) out) (tok 3 (txt "__flags_" ++ part (now (f .entry)) at n)) ⌝ }
 {
-    if ready(tokens, text.len(), out, 3) {
-        let from = out.bytes;
-        let wrote = part_behind(&mut text[from..], b"__flags_", f, at, n);
-        return token(tokens, out, 3, wrote);
-    }
-    stop(out)
+    put_piece(tokens, text, out, 3, f, Piece::Flags(Bytes { at, n }))
 }

@@ -3,5 +3,6 @@ pub mod from_file;
 pub mod fronted;
 pub mod line;
 pub mod out;
+pub mod piece;
 pub mod place;
 pub mod put;

@@ -15,14 +15,11 @@ same-length-2 c = search needs
 returns : tie.Need-returns
 returns c = code-own _ _ _ _ _ (c .before .before .before .before .before .before .before .if1 .taken) (c .before .before .before .before .put-reg .ensures)
 
-slice-aggregate-put-counted : tie.Need-slice-aggregate-put-counted
-slice-aggregate-put-counted c = search needs
+cast-put-param : tie.Need-cast-put-param
+cast-put-param c = search needs
 
-cast-put-counted : tie.Need-cast-put-counted
-cast-put-counted c = search needs
-
-put-counted-requires : tie.Need-put-counted-requires
-put-counted-requires c κs = search needs
+put-param-requires : tie.Need-put-param-requires
+put-param-requires c κs = search needs
 
 same-length-3 : tie.Need-same-length-3
 same-length-3 c = search needs
@@ -31,16 +28,13 @@ same-length-4 : tie.Need-same-length-4
 same-length-4 c = search needs
 
 returns-2 : tie.Need-returns-2
-returns-2 c = code-a _ _ _ _ _ (c .before .before .before .before .before .before .before .before .before .if1 .left) (c .before .before .before .before .before .before .before .before .if2 .taken) (c .before .before .before .before .put-counted .ensures)
+returns-2 c = code-a _ _ _ _ _ (c .before .before .before .before .before .before .before .before .if1 .left) (c .before .before .before .before .before .before .before .if2 .taken) (c .before .before .before .before .put-param .ensures)
 
-slice-aggregate-put-counted-2 : tie.Need-slice-aggregate-put-counted-2
-slice-aggregate-put-counted-2 c = search needs
+cast-put-local : tie.Need-cast-put-local
+cast-put-local c = search needs
 
-cast-put-counted-2 : tie.Need-cast-put-counted-2
-cast-put-counted-2 c = search needs
-
-put-counted-requires-2 : tie.Need-put-counted-requires-2
-put-counted-requires-2 c κs = search needs
+put-local-requires : tie.Need-put-local-requires
+put-local-requires c κs = search needs
 
 same-length-5 : tie.Need-same-length-5
 same-length-5 c = search needs
@@ -49,7 +43,7 @@ same-length-6 : tie.Need-same-length-6
 same-length-6 c = search needs
 
 returns-3 : tie.Need-returns-3
-returns-3 c = code-v _ _ _ _ _ (c .before .before .before .before .before .before .before .before .before .if1 .left) (c .before .before .before .before .before .before .before .before .if2 .left) (c .before .before .before .before .put-counted2 .ensures)
+returns-3 c = code-v _ _ _ _ _ (c .before .before .before .before .before .before .before .before .if1 .left) (c .before .before .before .before .before .before .before .if2 .left) (c .before .before .before .before .put-local .ensures)
 
 pub put-code-spec : {M : Type 1} → statement M
 put-code-spec =
@@ -59,15 +53,13 @@ put-code-spec =
     same-length
     same-length-2
     returns
-    slice-aggregate-put-counted
-    cast-put-counted
-    put-counted-requires
+    cast-put-param
+    put-param-requires
     same-length-3
     same-length-4
     returns-2
-    slice-aggregate-put-counted-2
-    cast-put-counted-2
-    put-counted-requires-2
+    cast-put-local
+    put-local-requires
     same-length-5
     same-length-6
     returns-3)

@@ -1,32 +1,10 @@
 use Rattle.definition.specs.Render.{pointer}
-use Rattle.room.proofs.Emits.{emit-not, ready-rest, placeable, leaf-emit}
 use borrow.Author.Needs.{needs}
 use Rattle.room.proofs.put.put_pointer.Statement.{statement}
 use Rattle.room.proofs.put.put_pointer.Tie as tie
-use Rattle.room.proofs.put.put_pointer.Reads as reads
-use Rattle.room.proofs.put.put_pointer.Lts as lts
-use Rattle.room.proofs.place.ready.Reads as ready-reads
-use Rattle.room.proofs.place.stop.Reads as stop-reads
-use Rattle.room.proofs.place.token.Reads as token-reads
-use Rattle.digits.proofs.numbers.pointer.Reads as pointer-reads
 
-ready-requires : tie.Need-ready-requires
-ready-requires c κs = search needs
-
-sub-pointer : tie.Need-sub-pointer
-sub-pointer c = let a = c .before .before .before .before .before .args in ready-rest (a .tokens .now) (a .text .now) (a .out) 3 _ (c .before .ready .ensures) (c .if1 .taken)
-
-part-pointer-start : tie.Need-part-pointer-start
-part-pointer-start c = let a = c .before .before .before .before .before .args in ready-rest (a .tokens .now) (a .text .now) (a .out) 3 _ (c .before .ready .ensures) (c .if1 .taken)
-
-part-pointer-end : tie.Need-part-pointer-end
-part-pointer-end c = search needs
-
-pointer-requires : tie.Need-pointer-requires
-pointer-requires c κs = search needs
-
-token-requires : tie.Need-token-requires
-token-requires c κs = let a = c .before .before .before .before .before .before .before .before .before .before .args in placeable (a .tokens .now) (a .text .now) (a .out) 3 _ (c .before .before .before .before .before .before .ready .ensures) (c .before .before .before .before .before .if1 .taken) _ _ _ (c .before .before .before .pointer .ensures)
+put-made-requires : tie.Need-put-made-requires
+put-made-requires c κs = search needs
 
 same-length : tie.Need-same-length
 same-length c = search needs
@@ -36,31 +14,7 @@ same-length-2 c = search needs
 
 returns : tie.Need-returns
 unfolding pointer
-returns c = let a = c .before .before .before .before .before .before .before .before .before .before .before .before .before .args in leaf-emit (a .tokens .now) (a .text .now) (a .out) 3 _ (c .before .before .before .before .before .before .before .before .before .ready .ensures) (c .before .before .before .before .before .before .before .before .if1 .taken) _ _ _ (c .before .before .before .before .before .before .pointer .ensures) _ _ (c .before .before .token .ensures)
-
-stop-requires : tie.Need-stop-requires
-stop-requires c κs = search needs
-
-same-length-3 : tie.Need-same-length-3
-same-length-3 c = search needs
-
-returns-2 : tie.Need-returns-2
-unfolding pointer
-returns-2 c = let a = c .before .before .before .before .before .before .args in emit-not (a .tokens .now) (a .text .now) (a .out) 3 _ _ _ (c .before .before .ready .ensures) (c .before .if1 .left) (c .stop .ensures)
+returns c = c .before .before .before .before .put-made .ensures
 
 pub put-pointer-spec : {M : Type 1} → statement M
-put-pointer-spec =
-    tie.close
-    (tie.spec
-    ready-requires
-    sub-pointer
-    part-pointer-start
-    part-pointer-end
-    pointer-requires
-    token-requires
-    same-length
-    same-length-2
-    returns
-    stop-requires
-    same-length-3
-    returns-2)
+put-pointer-spec = tie.close (tie.spec put-made-requires same-length same-length-2 returns)
