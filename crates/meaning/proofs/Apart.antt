@@ -6,12 +6,14 @@ use Prim.Native.Nat.{ℕ, _+_, _-_}
 use native.Mathlib.Omega.{arith}
 use lib.Dec.{eqb, ltb}
 use borrow.Author.Tests.{eq-eqb, ne-eqb}
-use Rattle.definition.specs.Edition.{args, blocks, names}
-use Rattle.definition.specs.Lists.{allBelow, among, distinct}
-use Rattle.definition.specs.Contents.{size, argAt, blockLong, nameLong}
+use Rattle.definition.specs.Edition.{args, names}
+use Rattle.definition.specs.Lists.{allBelow, among}
+use Rattle.definition.specs.Contents.{size, argAt, nameLong}
 use Rattle.definition.specs.Values.{RSP}
-use Rattle.definition.specs.Meaning.{argRegs, starts, rising}
-use Rattle.meaning.proofs.Ranges.{among-below, distinct-below}
+use Rattle.definition.specs.Meaning.{argRegs, rising}
+use Rattle.meaning.specs.declared.distinct.Keys.{Keys}
+use Rattle.meaning.specs.Choice.{keyAt}
+use Rattle.meaning.proofs.Ranges.{among-below}
 
 -- x and y, which were read as a and b
 module _ (a b x y : ℕ) (p : x ≡ a) (q : y ≡ b) where
@@ -22,35 +24,21 @@ module _ (a b x y : ℕ) (p : x ≡ a) (q : y ≡ b) where
   differ-read h = rw (ne-eqb a b (λ e. h (p ∙ e ∙ sym q)))
 
 module _ (f : List ℕ) where
-  abbrev pub argApart : ℕ → ℕ → Bool
-  argApart i j = not (eqb (argAt f i) (argAt f j))
+  abbrev pub keyApart : Keys → ℕ → ℕ → Bool
+  keyApart k i j = not (eqb (keyAt f k i) (keyAt f k j))
 
-  abbrev pub argNew : ℕ → Bool
-  argNew i = allBelow i (argApart i)
+  abbrev pub keyNew : Keys → ℕ → Bool
+  keyNew k i = allBelow i (keyApart k i)
 
   abbrev pub argSpares : ℕ → Bool
   argSpares i = not (eqb RSP (argAt f i))
 
-  abbrev pub startApart : ℕ → ℕ → Bool
-  startApart i j = not (eqb (blockLong f i 0) (blockLong f j 0))
-
-  abbrev pub startNew : ℕ → Bool
-  startNew i = allBelow i (startApart i)
-
   abbrev pub nameRises : ℕ → Bool
   nameRises i = ltb (nameLong f i 0) (nameLong f (i + 1) 0)
-
-  pub args-distinct : distinct (argRegs f) ≡ allBelow (size f args) argNew
-  unfolding argRegs
-  args-distinct = distinct-below (argAt f) (size f args)
 
   pub args-spare : not (among RSP (argRegs f)) ≡ allBelow (size f args) argSpares
   unfolding argRegs
   args-spare = among-below RSP (argAt f) (size f args)
-
-  pub starts-distinct : distinct (starts f) ≡ allBelow (size f blocks) startNew
-  unfolding starts
-  starts-distinct = distinct-below (λ i. blockLong f i 0) (size f blocks)
 
   pub names-rise : (n : ℕ) → n ≡ size f names → rising f ≡ allBelow (n - 1) nameRises
   unfolding rising

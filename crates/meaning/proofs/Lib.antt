@@ -2,6 +2,7 @@ pub mod Ranges
 pub mod Values
 pub mod Tested
 pub mod RegistersNamed
+pub mod Choice
 pub mod Apart
 pub mod Defining
 pub mod Bits

@@ -1,3 +1,4 @@
 pub mod Defined
 pub mod Slots
 pub mod Parts
+pub mod Choice

@@ -9,21 +9,38 @@ use records::contents::name_long;
 use records::contents::size_of;
 ghost use mathlib.Core.Path.{_≡_};
 ghost use mathlib.Core.Bool.{not};
+ghost use mathlib.Core.List.{map};
 ghost use lib.Dec.{eqb, ltb};
 ghost use Prim.Native.Nat.{_+_, _<_};
-ghost use Rattle.definition.specs.Lists.{allBelow, among, distinct};
-ghost use Rattle.definition.specs.Contents.{argAt, blockLong, nameLong};
+ghost use Rattle.definition.specs.Lists.{range, allBelow, among, distinct};
+ghost use Rattle.definition.specs.Contents.{nameLong};
 ghost use Rattle.definition.specs.Values.{RSP};
 ghost use Rattle.definition.specs.Meaning.{argRegs, starts, rising};
+ghost use Rattle.meaning.specs.Choice.{keyAt};
 
-// Argument i is none of those before it.
-fn arg_new(f: &[u8], i: u32) -> bool
-    ensures { λ r. ⌜ r ≡ allBelow i (λ j. not (eqb (argAt (now (f .entry)) i) (argAt (now (f .entry)) j))) ⌝ }
+// What may not stand twice: the arguments, and where blocks start.
+enum Keys {
+    Args,
+    Starts,
+}
+
+fn key_at(f: &[u8], k: Keys, i: u32) -> u64
+    ensures { λ r. ⌜ r ≡ keyAt (now (f .entry)) k i ⌝ }
 {
-    let x = arg_at(f, i);
+    match k {
+        Keys::Args => arg_at(f, i) as u64,
+        Keys::Starts => block_long(f, i, 0),
+    }
+}
+
+// Key i is none of those before it.
+fn key_new(f: &[u8], k: Keys, i: u32) -> bool
+    ensures { λ r. ⌜ r ≡ allBelow i (λ j. not (eqb (keyAt (now (f .entry)) k i) (keyAt (now (f .entry)) k j))) ⌝ }
+{
+    let x = key_at(f, k, i);
     let mut j = 0;
     while j < i {
-        if x == arg_at(f, j) {
+        if x == key_at(f, k, j) {
             return false;
         }
         j += 1;
@@ -31,18 +48,30 @@ fn arg_new(f: &[u8], i: u32) -> bool
     true
 }
 
-pub fn args_distinct(f: &[u8]) -> bool
-    ensures { λ r. ⌜ r ≡ distinct (argRegs (now (f .entry))) ⌝ }
+// No key of the first n stands twice.
+fn keys_distinct(f: &[u8], k: Keys, n: u32) -> bool
+    ensures { λ r. ⌜ r ≡ distinct (map (keyAt (now (f .entry)) k) (range 0 n)) ⌝ }
 {
-    let n = size_of(f, ARGS);
     let mut i = 0;
     while i < n {
-        if !arg_new(f, i) {
+        if !key_new(f, k, i) {
             return false;
         }
         i += 1;
     }
     true
+}
+
+pub fn args_distinct(f: &[u8]) -> bool
+    ensures { λ r. ⌜ r ≡ distinct (argRegs (now (f .entry))) ⌝ }
+{
+    keys_distinct(f, Keys::Args, size_of(f, ARGS))
+}
+
+pub fn starts_distinct(f: &[u8]) -> bool
+    ensures { λ r. ⌜ r ≡ distinct (starts (now (f .entry))) ⌝ }
+{
+    keys_distinct(f, Keys::Starts, size_of(f, BLOCKS))
 }
 
 pub fn args_spare_rsp(f: &[u8]) -> bool
@@ -52,35 +81,6 @@ pub fn args_spare_rsp(f: &[u8]) -> bool
     let mut i = 0;
     while i < n {
         if arg_at(f, i) == RSP {
-            return false;
-        }
-        i += 1;
-    }
-    true
-}
-
-// Block i starts where none of those before it does.
-fn start_new(f: &[u8], i: u32) -> bool
-    ensures { λ r. ⌜ r ≡ allBelow i (λ j. not (eqb (blockLong (now (f .entry)) i 0) (blockLong (now (f .entry)) j 0))) ⌝ }
-{
-    let x = block_long(f, i, 0);
-    let mut j = 0;
-    while j < i {
-        if x == block_long(f, j, 0) {
-            return false;
-        }
-        j += 1;
-    }
-    true
-}
-
-pub fn starts_distinct(f: &[u8]) -> bool
-    ensures { λ r. ⌜ r ≡ distinct (starts (now (f .entry))) ⌝ }
-{
-    let n = size_of(f, BLOCKS);
-    let mut i = 0;
-    while i < n {
-        if !start_new(f, i) {
             return false;
         }
         i += 1;

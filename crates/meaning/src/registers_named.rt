@@ -18,15 +18,16 @@ use records::owners::expr_items;
 use records::owners::value_items;
 ghost use mathlib.Core.Path.{_≡_};
 ghost use mathlib.Core.Bool.{true};
-ghost use mathlib.Core.List.{_++_, map};
+ghost use mathlib.Core.List.{_++_};
 ghost use Prim.Native.Nat.{_+_, _<_};
-ghost use Rattle.definition.specs.Edition.{phis, statements, expressions};
-ghost use Rattle.definition.specs.Lists.{all, gather, range, allBelow};
+ghost use Rattle.definition.specs.Edition.{statements};
+ghost use Rattle.definition.specs.Lists.{all, allBelow};
 ghost use Rattle.definition.specs.Contents.{size};
 ghost use Rattle.definition.specs.Owners.{firstItem};
 ghost use Rattle.definition.specs.Shape.{owned};
-ghost use Rattle.definition.specs.Meaning.{isRegister, argRegs, phiValue, assigned, callReturns, itemValues, strict, loose, useRegister, registers};
+ghost use Rattle.definition.specs.Meaning.{isRegister, callReturns, itemValues, strict, loose, useRegister, registers};
 ghost use Rattle.meaning.specs.Defined.{listOf, named, itemValue};
+ghost use Rattle.meaning.specs.Choice.{recordNamed};
 
 fn is_register(r: u32) -> bool
     ensures { λ t. ⌜ t ≡ isRegister r ⌝ }
@@ -44,41 +45,41 @@ fn defined_named(d: Defined) -> bool
     }
 }
 
-fn args_named(f: &[u8]) -> bool
-    ensures { λ r. ⌜ r ≡ all isRegister (argRegs (now (f .entry))) ⌝ }
+fn use_named(f: &[u8], i: u32) -> bool
+    ensures { λ r. ⌜ r ≡ useRegister (now (f .entry)) i ⌝ }
 {
-    let n = size_of(f, ARGS);
-    let mut i = 0;
-    while i < n {
-        if !is_register(arg_at(f, i)) {
-            return false;
-        }
-        i += 1;
+    if expr_word(f, i, 0) != USE {
+        return true;
     }
-    true
+    is_register(expr_word(f, i, 1))
 }
 
-fn phis_named(f: &[u8]) -> bool
-    ensures { λ r. ⌜ r ≡ all named (map (phiValue (now (f .entry))) (range 0 (size (now (f .entry)) phis))) ⌝ }
-{
-    let n = size_of(f, PHIS);
-    let mut i = 0;
-    while i < n {
-        if !is_register(phi_value(f, i).reg) {
-            return false;
-        }
-        i += 1;
-    }
-    true
+// What names registers: arguments, phis, what Assigns define, and Uses.
+enum Naming {
+    Args,
+    Phis,
+    Assigns,
+    Uses,
 }
 
-fn assigns_named(f: &[u8]) -> bool
-    ensures { λ r. ⌜ r ≡ all named (gather (assigned (now (f .entry))) (range 0 (size (now (f .entry)) statements))) ⌝ }
+fn record_named(f: &[u8], s: Naming, i: u32) -> bool
+    ensures { λ r. ⌜ r ≡ recordNamed (now (f .entry)) s i ⌝ }
 {
-    let n = size_of(f, STATEMENTS);
+    match s {
+        Naming::Args => is_register(arg_at(f, i)),
+        Naming::Phis => is_register(phi_value(f, i).reg),
+        Naming::Assigns => defined_named(assigned_by(f, i)),
+        Naming::Uses => use_named(f, i),
+    }
+}
+
+// The first n records.
+fn records_named(f: &[u8], s: Naming, n: u32) -> bool
+    ensures { λ r. ⌜ r ≡ allBelow n (recordNamed (now (f .entry)) s) ⌝ }
+{
     let mut i = 0;
     while i < n {
-        if !defined_named(assigned_by(f, i)) {
+        if !record_named(f, s, i) {
             return false;
         }
         i += 1;
@@ -89,10 +90,10 @@ fn assigns_named(f: &[u8]) -> bool
 fn strict_named(f: &[u8]) -> bool
     ensures { λ r. ⌜ r ≡ all named (strict (now (f .entry))) ⌝ }
 {
-    if !phis_named(f) {
+    if !records_named(f, Naming::Phis, size_of(f, PHIS)) {
         return false;
     }
-    assigns_named(f)
+    records_named(f, Naming::Assigns, size_of(f, STATEMENTS))
 }
 
 // The n items from place `from` on.
@@ -138,34 +139,11 @@ fn loose_named(f: &[u8]) -> bool
     true
 }
 
-fn use_named(f: &[u8], i: u32) -> bool
-    ensures { λ r. ⌜ r ≡ useRegister (now (f .entry)) i ⌝ }
-{
-    if expr_word(f, i, 0) != USE {
-        return true;
-    }
-    is_register(expr_word(f, i, 1))
-}
-
-fn uses_named(f: &[u8]) -> bool
-    ensures { λ r. ⌜ r ≡ allBelow (size (now (f .entry)) expressions) (useRegister (now (f .entry))) ⌝ }
-{
-    let n = size_of(f, EXPRESSIONS);
-    let mut i = 0;
-    while i < n {
-        if !use_named(f, i) {
-            return false;
-        }
-        i += 1;
-    }
-    true
-}
-
 pub fn registers_named(f: &[u8]) -> bool
     requires { ⌜ owned (now f) ≡ true ⌝ }
     ensures { λ r. ⌜ r ≡ registers (now (f .entry)) ⌝ }
 {
-    if !args_named(f) {
+    if !records_named(f, Naming::Args, size_of(f, ARGS)) {
         return false;
     }
     if !strict_named(f) {
@@ -174,5 +152,5 @@ pub fn registers_named(f: &[u8]) -> bool
     if !loose_named(f) {
         return false;
     }
-    uses_named(f)
+    records_named(f, Naming::Uses, size_of(f, EXPRESSIONS))
 }

@@ -7,7 +7,9 @@ use Rattle.definition.specs.Codes.{kAssign, kStore, kFlags, kReturn, tBin, tUn,
 use Rattle.definition.specs.Edition.{Edition}
 use Rattle.definition.specs.Contents.{itemWord, exprWord}
 use Rattle.definition.specs.Owners.{stmtKind, stmtField, exprItems}
-use Rattle.definition.specs.References.{stmtText, exprText, childrenLower, rootsInside}
+use Rattle.definition.specs.References.{nameSound, stmtText, exprText, childrenLower, rootsInside}
+use Rattle.references.specs.declared.references.Records.{Records}
+use Rattle.references.specs.declared.references.Records.the-variants.{Names, Exprs}
 
 -- how many children expression i has, and the k-th
 unfoldable pub childCount : List ℕ → ℕ → ℕ
@@ -43,3 +45,8 @@ stmtSound E f i = stmtText E f i && rootsInside f i
 
 unfoldable pub exprSound : Edition → List ℕ → ℕ → Bool
 exprSound E f i = exprText E f i && childrenLower f i
+
+-- by the section that the record is in
+abbrev pub recordSound : Edition → List ℕ → Records → ℕ → Bool
+recordSound E f Names = nameSound E f
+recordSound E f Exprs = exprSound E f

@@ -26,7 +26,7 @@ ghost use mathlib.Core.Bool.{true, not, _&&_};
 ghost use Prim.Native.Nat.{_+_, _≤_, _<_};
 ghost use lib.Dec.{eqb};
 ghost use lib.ListN.{length};
-ghost use Rattle.definition.specs.Edition.{statements, expressions, names};
+ghost use Rattle.definition.specs.Edition.{statements, expressions};
 ghost use Rattle.definition.specs.Words.{part};
 ghost use Rattle.definition.specs.Contents.{size, text, textAt};
 ghost use Rattle.definition.specs.Lists.{all, allBelow};
@@ -34,7 +34,7 @@ ghost use Rattle.definition.specs.Owners.{exprItems, firstItem};
 ghost use Rattle.definition.specs.Shape.{owned};
 ghost use Rattle.definition.specs.References.{inText, printable, nameSound, stmtText, exprText, childrenLower, rootsInside, refused5};
 ghost use Rattle.records.specs.Editions.{editionOf};
-ghost use Rattle.references.specs.Named.{stmtSound, exprSound};
+ghost use Rattle.references.specs.Named.{stmtSound, exprSound, recordSound};
 ghost use Rattle.references.specs.Tally.{Answered};
 
 // Whether n bytes from `start` on lie inside the text. The sum is of whole numbers.
@@ -181,13 +181,28 @@ fn expr_sound(e: Edition, f: &[u8], i: u32) -> bool
     children_lower(f, i)
 }
 
-fn names_sound(e: Edition, f: &[u8]) -> bool
-    ensures { λ r. ⌜ r ≡ allBelow (size (now (f .entry)) names) (nameSound (editionOf e) (now (f .entry))) ⌝ }
+// The sections whose records are looked at one by one, with nothing carried along.
+enum Records {
+    Names,
+    Exprs,
+}
+
+fn record_sound(e: Edition, f: &[u8], s: Records, i: u32) -> bool
+    ensures { λ r. ⌜ r ≡ recordSound (editionOf e) (now (f .entry)) s i ⌝ }
 {
-    let n = size_of(f, NAMES);
+    match s {
+        Records::Names => name_sound(e, f, i),
+        Records::Exprs => expr_sound(e, f, i),
+    }
+}
+
+// The first n records of a section.
+fn records_sound(e: Edition, f: &[u8], s: Records, n: u32) -> bool
+    ensures { λ r. ⌜ r ≡ allBelow n (recordSound (editionOf e) (now (f .entry)) s) ⌝ }
+{
     let mut i = 0;
     while i < n {
-        if !name_sound(e, f, i) {
+        if !record_sound(e, f, s, i) {
             return false;
         }
         i += 1;
@@ -213,20 +228,6 @@ fn stmts_sound(e: Edition, f: &[u8]) -> bool
     true
 }
 
-fn exprs_sound(e: Edition, f: &[u8]) -> bool
-    ensures { λ r. ⌜ r ≡ allBelow (size (now (f .entry)) expressions) (exprSound (editionOf e) (now (f .entry))) ⌝ }
-{
-    let n = size_of(f, EXPRESSIONS);
-    let mut i = 0;
-    while i < n {
-        if !expr_sound(e, f, i) {
-            return false;
-        }
-        i += 1;
-    }
-    true
-}
-
 // The caller has seen that what is owned comes out exactly, so that the list items' numbers are small.
 pub fn refused5(e: Edition, f: &[u8], owners: &mut [u32]) -> bool
     requires { ⌜ owned (now f) ≡ true ⌝ }
@@ -237,13 +238,13 @@ pub fn refused5(e: Edition, f: &[u8], owners: &mut [u32]) -> bool
     if !text_printable(e, f) {
         return true;
     }
-    if !names_sound(e, f) {
+    if !records_sound(e, f, Records::Names, size_of(f, NAMES)) {
         return true;
     }
     if !stmts_sound(e, f) {
         return true;
     }
-    if !exprs_sound(e, f) {
+    if !records_sound(e, f, Records::Exprs, size_of(f, EXPRESSIONS)) {
         return true;
     }
     !once

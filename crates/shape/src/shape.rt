@@ -16,48 +16,36 @@ use words::word_at;
 ghost use mathlib.Core.Bool.{true};
 ghost use mathlib.Core.Path.{_≡_};
 ghost use Rattle.definition.specs.Contents.{size};
-ghost use Rattle.definition.specs.Edition.{blocks, phis, statements, expressions};
+ghost use Rattle.definition.specs.Edition.{statements};
 ghost use Rattle.definition.specs.Lists.{allBelow};
-ghost use Rattle.definition.specs.Shape.{owned, blockShaped, phiShaped};
-ghost use Rattle.definition.specs.Shape.{stmtShaped, exprShaped, shaped, refused4};
+ghost use Rattle.definition.specs.Shape.{owned, stmtShaped, shaped, refused4};
 ghost use Rattle.records.specs.Editions.{editionOf};
+ghost use Rattle.shape.specs.Records.{recordShaped};
 
-// Every record of a section.
-fn blocks_shaped(f: &[u8]) -> bool
-    ensures { λ r. ⌜ r ≡ allBelow (size (now (f .entry)) blocks) (blockShaped (now (f .entry))) ⌝ }
-{
-    let n = size_of(f, BLOCKS);
-    let mut i = 0;
-    while i < n {
-        if !block_shaped(f, i) {
-            return false;
-        }
-        i += 1;
-    }
-    true
+// The sections whose records are looked at one by one, with nothing carried along.
+enum Records {
+    Blocks,
+    Phis,
+    Exprs,
 }
 
-fn phis_shaped(f: &[u8]) -> bool
-    ensures { λ r. ⌜ r ≡ allBelow (size (now (f .entry)) phis) (phiShaped (now (f .entry))) ⌝ }
+fn record_shaped(f: &[u8], s: Records, i: u32) -> bool
+    ensures { λ r. ⌜ r ≡ recordShaped (now (f .entry)) s i ⌝ }
 {
-    let n = size_of(f, PHIS);
-    let mut i = 0;
-    while i < n {
-        if !phi_shaped(f, i) {
-            return false;
-        }
-        i += 1;
+    match s {
+        Records::Blocks => block_shaped(f, i),
+        Records::Phis => phi_shaped(f, i),
+        Records::Exprs => expr_shaped(f, i),
     }
-    true
 }
 
-fn exprs_shaped(f: &[u8]) -> bool
-    ensures { λ r. ⌜ r ≡ allBelow (size (now (f .entry)) expressions) (exprShaped (now (f .entry))) ⌝ }
+// The first n records of a section.
+fn records_shaped(f: &[u8], s: Records, n: u32) -> bool
+    ensures { λ r. ⌜ r ≡ allBelow n (recordShaped (now (f .entry)) s) ⌝ }
 {
-    let n = size_of(f, EXPRESSIONS);
     let mut i = 0;
     while i < n {
-        if !expr_shaped(f, i) {
+        if !record_shaped(f, s, i) {
             return false;
         }
         i += 1;
@@ -88,7 +76,10 @@ fn shaped(f: &[u8]) -> bool
     requires { ⌜ owned (now f) ≡ true ⌝ }
     ensures { λ r. ⌜ r ≡ shaped (now (f .entry)) ⌝ }
 {
-    (word_at(f, 8) <= 1) & blocks_shaped(f) & phis_shaped(f) & stmts_shaped(f) & exprs_shaped(f)
+    let blocks = records_shaped(f, Records::Blocks, size_of(f, BLOCKS));
+    let phis = records_shaped(f, Records::Phis, size_of(f, PHIS));
+    let exprs = records_shaped(f, Records::Exprs, size_of(f, EXPRESSIONS));
+    (word_at(f, 8) <= 1) & blocks & phis & stmts_shaped(f) & exprs
 }
 
 // Check 4: sections, owned counts, or a word out of place. Each is looked at only where the one before is right, so that a file's

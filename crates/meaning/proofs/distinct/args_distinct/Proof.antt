@@ -1,55 +1,19 @@
-use Prim.Native.Nat.{_≤_, _-_}
-use mathlib.Core.Bool.{true}
-use mathlib.Core.Path.{_≡_, sym, _∙_}
 use borrow.Author.Needs.{needs}
-use native.Mathlib.Omega.{arith}
-use Rattle.definition.specs.Lists.{allBelow}
-use Rattle.meaning.proofs.Apart.{argNew, args-distinct}
-use Rattle.records.proofs.Below.{all-start, all-turn, all-fail, all-done}
+use Rattle.definition.specs.Meaning.{argRegs}
+use Rattle.meaning.proofs.Choice.{distinct-all}
 use Rattle.meaning.proofs.distinct.args_distinct.Statement.{statement}
 use Rattle.meaning.proofs.distinct.args_distinct.Tie as tie
 
-abbrev Inv-loop : tie.InvT-loop
-Inv-loop f n i₀ i = (allBelow i (argNew f) ≡ true) × (i ≤ n)
-
-abbrev μ-loop : tie.MeasureT-loop
-μ-loop f n i₀ i = n - i
-
-size-of-requires : tie.Need-size-of-requires Inv-loop μ-loop
+size-of-requires : tie.Need-size-of-requires
 size-of-requires c κs = search needs
 
-loop-holds : tie.Need-loop-holds Inv-loop μ-loop
-loop-holds c = (all-start _, omega arith)
+keys-distinct-requires : tie.Need-keys-distinct-requires
+keys-distinct-requires c κs = search needs
 
-arg-new-requires : tie.Need-arg-new-requires Inv-loop μ-loop
-arg-new-requires c κs = search needs
-
-returns : tie.Need-returns Inv-loop μ-loop
-returns c = all-fail _ (c .before .before .before .before .size-of .ensures) (c .before .arg-new .ensures) (c .before .before .loop-test .taken) (c .if1 .taken) ∙ sym (args-distinct _)
-
-add-i : tie.Need-add-i Inv-loop μ-loop
-add-i c = omega arith
-
-loop-less : tie.Need-loop-less Inv-loop μ-loop
-loop-less c = omega arith
-
-loop-again : tie.Need-loop-again Inv-loop μ-loop
-loop-again c = (all-turn _ (c .before .arg-new .ensures) (c .before .before .before .loop .inv .0) (c .if1 .left), omega arith)
-
-returns-2 : tie.Need-returns-2 Inv-loop μ-loop
-returns-2 c = all-done _ (c .before .before .size-of .ensures) (c .before .loop .inv .0) (omega arith) ∙ sym (args-distinct _)
+returns : tie.Need-returns
+unfolding argRegs
+returns c = distinct-all _ _ _ _ (c .before .size-of .ensures) (c .keys-distinct .ensures)
 
 pub args-distinct-spec : {M : Type 1} → statement M
 args-distinct-spec =
-    tie.close
-    (tie.spec
-    Inv-loop
-    μ-loop
-    size-of-requires
-    loop-holds
-    arg-new-requires
-    returns
-    add-i
-    loop-less
-    loop-again
-    returns-2)
+    tie.close (tie.spec size-of-requires keys-distinct-requires returns)

@@ -1,21 +1,36 @@
-use borrow.Author.Needs.{needs}
 use Rattle.meaning.specs.Defined.{named}
+use Rattle.meaning.proofs.Choice.{all-read}
+use Rattle.meaning.proofs.RegistersNamed.{phis-named, assigns-named}
 use Rattle.meaning.proofs.Tested.{strict-stop, strict-go}
+use borrow.Author.Needs.{needs}
 use Rattle.meaning.proofs.registers_named.strict_named.Statement.{statement}
 use Rattle.meaning.proofs.registers_named.strict_named.Tie as tie
 
-phis-named-requires : tie.Need-phis-named-requires
-phis-named-requires c κs = search needs
+size-of-requires : tie.Need-size-of-requires
+size-of-requires c κs = search needs
+
+records-named-requires : tie.Need-records-named-requires
+records-named-requires c κs = search needs
 
 returns : tie.Need-returns
-returns c = strict-stop _ named _ (c .before .phis-named .ensures) (c .if1 .taken)
+returns c = strict-stop _ named _ (all-read _ _ _ _ _ (c .before .before .size-of .ensures) (c .before .records-named .ensures) (phis-named _)) (c .if1 .taken)
 
-assigns-named-requires : tie.Need-assigns-named-requires
-assigns-named-requires c κs = search needs
+size-of-requires-2 : tie.Need-size-of-requires-2
+size-of-requires-2 c κs = search needs
+
+records-named-requires-2 : tie.Need-records-named-requires-2
+records-named-requires-2 c κs = search needs
 
 returns-2 : tie.Need-returns-2
-returns-2 c = strict-go _ named _ (c .before .before .phis-named .ensures) _ (c .before .if1 .left) (c .assigns-named .ensures)
+returns-2 c = strict-go _ named _ (all-read _ _ _ _ _ (c .before .before .before .before .size-of .ensures) (c .before .before .before .records-named .ensures) (phis-named _)) _ (c .before .before .if1 .left) (all-read _ _ _ _ _ (c .before .size-of2 .ensures) (c .records-named2 .ensures) (assigns-named _))
 
 pub strict-named-spec : {M : Type 1} → statement M
 strict-named-spec =
-    tie.close (tie.spec phis-named-requires returns assigns-named-requires returns-2)
+    tie.close
+    (tie.spec
+    size-of-requires
+    records-named-requires
+    returns
+    size-of-requires-2
+    records-named-requires-2
+    returns-2)

@@ -20,40 +20,46 @@ returns c = record {
   left = c .before .before .before .before .owned-once .ensures .left;
 }
 
-names-sound-requires : tie.Need-names-sound-requires
-names-sound-requires c κs = search needs
+size-of-requires : tie.Need-size-of-requires
+size-of-requires c κs = search needs
+
+records-sound-requires : tie.Need-records-sound-requires
+records-sound-requires c κs = search needs
 
 same-length-2 : tie.Need-same-length-2
 same-length-2 c = search needs
 
 returns-2 : tie.Need-returns-2
 returns-2 c = record {
-  says = refuse _ _ (also-go (c .before .before .before .text-printable .ensures) (c .before .before .if1 .left) (also-stop _ (c .before .names-sound .ensures) (c .if2 .taken)));
-  left = c .before .before .before .before .before .before .owned-once .ensures .left;
+  says = refuse _ _ (also-go (c .before .before .before .before .text-printable .ensures) (c .before .before .before .if1 .left) (also-stop _ (rw (c .before .before .size-of .ensures) at (c .before .records-sound .ensures)) (c .if2 .taken)));
+  left = c .before .before .before .before .before .before .before .owned-once .ensures .left;
 }
 
 stmts-sound-requires : tie.Need-stmts-sound-requires
-stmts-sound-requires c κs = items-few _ (c .before .before .before .before .before .before .before .before .before .shared-slice-known .given) (c .before .before .before .before .before .before .before .before .before .before .pre .0)
+stmts-sound-requires c κs = items-few _ (c .before .before .before .before .before .before .before .before .before .before .shared-slice-known .given) (c .before .before .before .before .before .before .before .before .before .before .before .pre .0)
 
 same-length-3 : tie.Need-same-length-3
 same-length-3 c = search needs
 
 returns-3 : tie.Need-returns-3
 returns-3 c = record {
-  says = refuse _ _ (also-go (c .before .before .before .before .before .text-printable .ensures) (c .before .before .before .before .if1 .left) (also-go (c .before .before .before .names-sound .ensures) (c .before .before .if2 .left) (also-stop _ (c .before .stmts-sound .ensures) (c .if3 .taken))));
-  left = c .before .before .before .before .before .before .before .before .owned-once .ensures .left;
+  says = refuse _ _ (also-go (c .before .before .before .before .before .before .text-printable .ensures) (c .before .before .before .before .before .if1 .left) (also-go (rw (c .before .before .before .before .size-of .ensures) at (c .before .before .before .records-sound .ensures)) (c .before .before .if2 .left) (also-stop _ (c .before .stmts-sound .ensures) (c .if3 .taken))));
+  left = c .before .before .before .before .before .before .before .before .before .owned-once .ensures .left;
 }
 
-exprs-sound-requires : tie.Need-exprs-sound-requires
-exprs-sound-requires c κs = search needs
+size-of-requires-2 : tie.Need-size-of-requires-2
+size-of-requires-2 c κs = search needs
+
+records-sound-requires-2 : tie.Need-records-sound-requires-2
+records-sound-requires-2 c κs = search needs
 
 same-length-4 : tie.Need-same-length-4
 same-length-4 c = search needs
 
 returns-4 : tie.Need-returns-4
 returns-4 c = record {
-  says = refuse _ _ (also-go (c .before .before .before .before .before .before .before .text-printable .ensures) (c .before .before .before .before .before .before .if1 .left) (also-go (c .before .before .before .before .before .names-sound .ensures) (c .before .before .before .before .if2 .left) (also-go (c .before .before .before .stmts-sound .ensures) (c .before .before .if3 .left) (also-stop _ (c .before .exprs-sound .ensures) (c .if4 .taken)))));
-  left = c .before .before .before .before .before .before .before .before .before .before .owned-once .ensures .left;
+  says = refuse _ _ (also-go (c .before .before .before .before .before .before .before .before .before .text-printable .ensures) (c .before .before .before .before .before .before .before .before .if1 .left) (also-go (rw (c .before .before .before .before .before .before .before .size-of .ensures) at (c .before .before .before .before .before .before .records-sound .ensures)) (c .before .before .before .before .before .if2 .left) (also-go (c .before .before .before .before .stmts-sound .ensures) (c .before .before .before .if3 .left) (also-stop _ (rw (c .before .before .size-of2 .ensures) at (c .before .records-sound2 .ensures)) (c .if4 .taken)))));
+  left = c .before .before .before .before .before .before .before .before .before .before .before .before .owned-once .ensures .left;
 }
 
 same-length-5 : tie.Need-same-length-5
@@ -61,8 +67,8 @@ same-length-5 c = search needs
 
 returns-5 : tie.Need-returns-5
 returns-5 c = record {
-  says = last _ _ _ (also-go (c .before .before .before .before .before .before .before .text-printable .ensures) (c .before .before .before .before .before .before .if1 .left) (also-go (c .before .before .before .before .before .names-sound .ensures) (c .before .before .before .before .if2 .left) (also-go (c .before .before .before .stmts-sound .ensures) (c .before .before .if3 .left) (also-go (c .before .exprs-sound .ensures) (c .if4 .left) (c .before .before .before .before .before .before .before .before .before .before .owned-once .ensures .says)))));
-  left = c .before .before .before .before .before .before .before .before .before .before .owned-once .ensures .left;
+  says = last _ _ _ (also-go (c .before .before .before .before .before .before .before .before .before .text-printable .ensures) (c .before .before .before .before .before .before .before .before .if1 .left) (also-go (rw (c .before .before .before .before .before .before .before .size-of .ensures) at (c .before .before .before .before .before .before .records-sound .ensures)) (c .before .before .before .before .before .if2 .left) (also-go (c .before .before .before .before .stmts-sound .ensures) (c .before .before .before .if3 .left) (also-go (rw (c .before .before .size-of2 .ensures) at (c .before .records-sound2 .ensures)) (c .if4 .left) (c .before .before .before .before .before .before .before .before .before .before .before .before .owned-once .ensures .says)))));
+  left = c .before .before .before .before .before .before .before .before .before .before .before .before .owned-once .ensures .left;
 }
 
 pub refused5-spec : {M : Type 1} → statement M
@@ -73,13 +79,15 @@ refused5-spec =
     text-printable-requires
     same-length
     returns
-    names-sound-requires
+    size-of-requires
+    records-sound-requires
     same-length-2
     returns-2
     stmts-sound-requires
     same-length-3
     returns-3
-    exprs-sound-requires
+    size-of-requires-2
+    records-sound-requires-2
     same-length-4
     returns-4
     same-length-5

@@ -1,0 +1,24 @@
+-- Records of several kinds that one loop goes through: what it reads of record i, by the kind.
+use mathlib.Core.Bool.{Bool}
+use mathlib.Core.List.{List}
+use Prim.Native.Nat.{ℕ}
+use Rattle.definition.specs.Lists.{all}
+use Rattle.definition.specs.Contents.{argAt, blockLong}
+use Rattle.definition.specs.Meaning.{isRegister, phiValue, assigned, useRegister}
+use Rattle.meaning.specs.declared.distinct.Keys.{Keys}
+use Rattle.meaning.specs.declared.distinct.Keys.the-variants.{Args as KeyArgs, Starts}
+use Rattle.meaning.specs.declared.registers_named.Naming.{Naming}
+use Rattle.meaning.specs.declared.registers_named.Naming.the-variants.{Args, Phis, Assigns, Uses}
+use Rattle.meaning.specs.Defined.{named}
+
+-- the number that may not stand twice
+abbrev pub keyAt : List ℕ → Keys → ℕ → ℕ
+keyAt f KeyArgs i = argAt f i
+keyAt f Starts i = blockLong f i 0
+
+-- the registers that it names are registers that there are
+abbrev pub recordNamed : List ℕ → Naming → ℕ → Bool
+recordNamed f Args i = isRegister (argAt f i)
+recordNamed f Phis i = named (phiValue f i)
+recordNamed f Assigns i = all named (assigned f i)
+recordNamed f Uses i = useRegister f i
