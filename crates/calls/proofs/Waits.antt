@@ -14,8 +14,7 @@ use Rattle.definition.specs.Read.{treeAt, allTrees, marked, stmtAt}
 use Rattle.definition.specs.Lower.{takes, pushed}
 use Rattle.definition.specs.Blocks.{pendAfter}
 use Rattle.definition.proofs.Bools.{both-true, by-test}
-use Rattle.records.proofs.Ranges.{gather-map, map-gather}
-use Rattle.reads.proofs.Statements.{gather-same}
+use Rattle.records.proofs.Ranges.{gather-map, map-gather, gather-same}
 use Rattle.calls.specs.Numbered.{takesAt}
 use Rattle.calls.specs.Waiting.{pushesIn, pending, storedAt, pushedNodes}
 use Rattle.calls.proofs.Recorded.{takes-is, pushed-is}

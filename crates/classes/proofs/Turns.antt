@@ -15,13 +15,14 @@ use Rattle.definition.specs.Owners.{phiInputs, firstInput}
 use Rattle.definition.specs.Values.{RSP}
 use Rattle.records.proofs.Editions.{length-range}
 use Rattle.records.proofs.Below.{sum-start, sum-turn, sum-le}
+use Rattle.records.proofs.Parts.{owned-parts}
 use Rattle.ssa.specs.Block.{phiRecord}
 use Rattle.ssa.specs.declared.block.Phi.{Phi}
 use Rattle.values.specs.Keys.{placesOf}
 use Rattle.values.specs.Tables.{at}
 use Rattle.values.specs.declared.places.Places.{Places}
 use Rattle.values.proofs.Tables.{at-set-other, same-at, numbered-length}
-use Rattle.values.proofs.Placed.{keyed-length, phi-here, owned-inputs}
+use Rattle.values.proofs.Placed.{keyed-length, phi-here}
 use Rattle.classes.specs.Given.{Given, Standing}
 use Rattle.classes.specs.Roots.{under, join, joinRun, joinPhi, joinPhis, kept, spared}
 use Rattle.classes.proofs.Labels.{at-range, fill-on, fill-end}
@@ -151,7 +152,7 @@ module _ (f ks ns : List ℕ) (n : ℕ) (given : Given f ks ns n) where
     pub inputs-fit : (m : ℕ) → m ≡ phiInputs f i → k + m ≤ n
     unfolding placesOf firstInput
     inputs-fit m e =
-        omega (arith, stand .inputs, sum-turn (phiInputs f) {i = i} refl e, sum-le (phiInputs f) (i + 1) (size f phis) (omega arith), owned-inputs f (given .whole), given .room)
+        omega (arith, stand .inputs, sum-turn (phiInputs f) {i = i} refl e, sum-le (phiInputs f) (i + 1) (size f phis) (omega arith), owned-parts f (given .whole) .all-inputs, given .room)
 
     pub run-asks : (m : ℕ) → m ≡ phiInputs f i → (length ks ≡ n) × (k + m ≤ length ns)
     run-asks m e = (keys-long, omega (arith, inputs-fit m e, numbers-long))

@@ -1,24 +1,23 @@
 -- Runs of places: what a run and then another places is what both place, one behind the other; so loops over statements and blocks place all.
 use mathlib.Core.Path.{_≡_, refl, sym, ap, ap₂, _∙_}
-use mathlib.Core.Bool.{Bool, true, false, not, cond, _&&_}
+use mathlib.Core.Bool.{Bool, true, false, not, cond}
 use mathlib.Core.List.{List, [], _∷_, _++_, append-nil}
 use Prim.Native.Nat.{ℕ, suc, _+_, _-_, _≤_, _<_}
 use native.Mathlib.Omega.{arith}
-use lib.Dec.{eqb}
 use lib.ListN.{length, getD, set, replicate}
 use mir.Syntax.{w8}
 use mir.Val.{Fits}
-use borrow.Author.Tests.{eqb-true, not-true, not-false}
-use Rattle.definition.specs.Edition.{Edition, blocks, phis, inputs, statements, lists}
+use borrow.Author.Tests.{not-true, not-false}
+use Rattle.definition.specs.Edition.{Edition, blocks, statements}
 use Rattle.definition.specs.Lists.{gather, range}
 use Rattle.definition.specs.Contents.{size}
-use Rattle.definition.specs.Owners.{stmtField, blockStmts, firstPhi, firstStmt, firstInput, firstItem}
+use Rattle.definition.specs.Owners.{stmtField, blockStmts, firstStmt}
 use Rattle.definition.specs.Shape.{owned}
 use Rattle.definition.specs.Values.{Value, eqv}
-use Rattle.records.proofs.Also.{and-both}
 use Rattle.records.proofs.Items.{size-small}
 use Rattle.records.proofs.Below.{sum-start, sum-turn, sum-le}
 use Rattle.records.proofs.Ranges.{gather-append, range-parts}
+use Rattle.records.proofs.Parts.{owned-parts}
 use Rattle.values.specs.Keys.{placesOf}
 use Rattle.values.specs.Tables.{at, table}
 use Rattle.values.proofs.Tables.{table-same, table-zero}
@@ -118,15 +117,6 @@ module _ (f : List ℕ) (n : ℕ) (g : Edition → ℕ → List Placed) (a : ℕ
       (λ (E : Edition). ap (λ (k : ℕ). gather (g E) (range a (k - a))) e)
 
 -- ---- blocks, first being where the statements of block b begin, and s how many it has
-pub owned-stmts : (f : List ℕ) → owned f ≡ true → firstStmt f (size f blocks) ≡ size f statements
-unfolding owned
-owned-stmts f own =
-    let a = eqb (firstPhi f (size f blocks)) (size f phis) in
-    let b = eqb (firstStmt f (size f blocks)) (size f statements) in
-    let c = eqb (firstInput f (size f phis)) (size f inputs) in
-    let d = eqb (firstItem f (size f statements)) (size f lists) in
-    eqb-true (firstStmt f (size f blocks)) (size f statements) (and-both a b (and-both (a && b) c (and-both (a && b && c) d own .0) .0) .1)
-
 pub stmts-start : (f : List ℕ) → 0 ≡ firstStmt f 0
 unfolding firstStmt
 stmts-start f = sum-start (blockStmts f)
@@ -138,7 +128,7 @@ module _ (f : List ℕ) (b first s : ℕ) (begins : first ≡ firstStmt f b) (ma
 
   pub block-inside : (n : ℕ) → owned f ≡ true → b < n → n ≡ size f blocks → first + s ≤ size f statements
   unfolding firstStmt
-  block-inside n own h e = omega (arith, stmts-turn, owned-stmts f own, sum-le (blockStmts f) (b + 1) (size f blocks) (omega arith))
+  block-inside n own h e = omega (arith, stmts-turn, owned-parts f own .all-stmts, sum-le (blockStmts f) (b + 1) (size f blocks) (omega arith))
 
   pub block-small : (n : ℕ) → ((k : ℕ) → Fits w8 (getD f k 0)) → owned f ≡ true → b < n → n ≡ size f blocks → first + s < 4294967296
   block-small n bytes own h e = omega (arith, block-inside n own h e, size-small f bytes statements)

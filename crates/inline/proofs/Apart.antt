@@ -18,13 +18,13 @@ use Rattle.definition.proofs.Bools.{by-test, both-true, or-cases}
 use Rattle.definition.proofs.ListLaws.{Each, end, _▸_, each-to, bit, count-cons, count-append, any-none}
 use Rattle.meaning.specs.Defined.{lone}
 use Rattle.meaning.proofs.Defining.{once-is}
-use Rattle.records.proofs.Also.{and-both}
 use Rattle.records.proofs.Ranges.{gather-append, range-parts}
+use Rattle.records.proofs.Parts.{owned-parts}
 use Rattle.definition.proofs.Equal.{eqv-true}
 use Rattle.values.proofs.Tables.{eqv-refl, eqv-swap}
 use Rattle.inline.specs.Placing.{Placed, placedAt, placedIn, allPlaced, placeIn, placeOf}
 use Rattle.inline.proofs.AtStatement.{target, placed-by}
-use Rattle.inline.proofs.Adding.{gather-last, owned-stmts}
+use Rattle.inline.proofs.Adding.{gather-last}
 
 -- the place is of v
 abbrev pub holds : Value → Placed → Bool
@@ -43,7 +43,7 @@ unfolding lone
 strict-once f v h =
     by-test (any (eqv v) (strict f))
     (λ e.
-    let l = and-both (not (eqb (v .ver) 0)) (eqb (count (eqv v) (strict f ++ loose f)) 1) (all-any (lone f) v (strict f) (once-is f ∙ h) e) in
+    let l = both-true (not (eqb (v .ver) 0)) (eqb (count (eqv v) (strict f ++ loose f)) 1) (all-any (lone f) v (strict f) (once-is f ∙ h) e) in
     omega (arith, eqb-true (count (eqv v) (strict f ++ loose f)) 1 (l .1), count-append (eqv v) (strict f) (loose f)))
     (λ e. omega (arith, any-none (eqv v) (strict f) e))
 
@@ -79,7 +79,7 @@ module _ (E : Edition) (f : List ℕ) (v : Value) where
   unfolding allPlaced placedIn firstStmt
   placed-few own =
       subst (λ (l : List Value). count (holds v) (allPlaced E f) ≤ count (eqv v) l)
-      (runs (assigned f) (blockStmts f) (size f blocks) ∙ ap (λ (n : ℕ). gather (assigned f) (range 0 n)) (owned-stmts f own))
+      (runs (assigned f) (blockStmts f) (size f blocks) ∙ ap (λ (n : ℕ). gather (assigned f) (range 0 n)) (owned-parts f own .all-stmts))
       (count-gather (holds v) (eqv v) (placedIn E f) (λ b. gather (assigned f) (range (firstStmt f b) (blockStmts f b)))
       (λ b. count-gather (holds v) (eqv v) (placedAt E f (firstStmt f b + blockStmts f b)) (assigned f) (at-statement (firstStmt f b + blockStmts f b))
       (range (firstStmt f b) (blockStmts f b))) (range 0 (size f blocks)))

@@ -11,9 +11,10 @@ use Rattle.definition.specs.Contents.{size}
 use Rattle.definition.specs.Owners.{blockStmts, firstStmt}
 use Rattle.definition.specs.Shape.{owned}
 use Rattle.definition.proofs.ListLaws.{Each, end, _▸_}
+use Rattle.records.proofs.Parts.{owned-parts}
 use Rattle.inline.specs.Placing.{Placed, placedAt, placedIn, allPlaced}
 use Rattle.inline.proofs.AtStatement.{placed-by}
-use Rattle.inline.proofs.Adding.{owned-stmts, stmts-start, stmts-turn}
+use Rattle.inline.proofs.Adding.{stmts-start, stmts-turn}
 
 -- they rise from a on, and are below b
 unfoldable pub Rising : ℕ → ℕ → List Placed → Type 0
@@ -53,7 +54,7 @@ module _ (E : Edition) (f : List ℕ) where
   rises own =
       let k : 0 + size f blocks ≡ size f blocks = omega arith in
       subst (λ (a : ℕ). Rising a (size f statements) (allPlaced E f)) (sym (stmts-start f))
-      (subst (λ (b : ℕ). Rising (firstStmt f 0) b (allPlaced E f)) (ap (firstStmt f) k ∙ owned-stmts f own)
+      (subst (λ (b : ℕ). Rising (firstStmt f 0) b (allPlaced E f)) (ap (firstStmt f) k ∙ owned-parts f own .all-stmts)
       (rising-gather (placedIn E f) (firstStmt f) in-block (size f blocks) 0))
 
 -- ---- all are below

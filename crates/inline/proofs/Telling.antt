@@ -19,8 +19,7 @@ use Rattle.definition.specs.Ssa.{Expr}
 use Rattle.definition.specs.Read.{treeAt, allTrees, marked, read}
 use Rattle.definition.specs.Inline.{reads, phiReads, readsOf, hasLoad, readOnce, readLater}
 use Rattle.definition.specs.Listing.{padded}
-use Rattle.definition.proofs.Bools.{by-test}
-use Rattle.records.proofs.Also.{and-both}
+use Rattle.definition.proofs.Bools.{by-test, both-true}
 use Rattle.words.proofs.Laws.{word-small}
 use Rattle.values.specs.Keys.{keyOf, stmtKey, placesOf, keyed}
 use Rattle.values.specs.Tables.{at, table}
@@ -121,8 +120,8 @@ module _ (f numbers live phi readers loads : List ℕ) (told : Told f numbers li
       let b = eqb (stmtKind f i) 1 in
       let c = not (eqb (stmtField f i 0) RSP) in
       let d = eqb (at phi number) 0 in
-      let e = and-both (a && b && c && d) (eqb (at live number) 1) h in
-      let p = and-both a b (and-both (a && b) c (and-both (a && b && c) d (e .0) .0) .0) in
+      let e = both-true (a && b && c && d) (eqb (at live number) 1) h in
+      let p = both-true a b (both-true (a && b) c (both-true (a && b && c) d (e .0) .0) .0) in
       record {
         lives = not-true (marked f i 1) (p .0);
         assigns = eqb-true (stmtKind f i) 1 (p .1);

@@ -14,7 +14,7 @@ use Rattle.definition.specs.Ssa.{Block}
 use Rattle.definition.specs.Read.{allTrees, blockAt, read}
 use Rattle.definition.specs.Lookup.{order}
 use Rattle.definition.proofs.Bools.{by-test, eqb-swap}
-use Rattle.reads.proofs.Statements.{map-map}
+use Rattle.records.proofs.Ranges.{map-map}
 use Rattle.marks.specs.Labels.{foundFrom, startAt, blockOf, labelled}
 
 -- ---- the loop: n blocks in all, b passed

@@ -18,10 +18,10 @@ use Rattle.definition.specs.Ssa.{Expr, Stmt, Block, stmtsOf}
 use Rattle.definition.specs.Read.{allTrees, kindAt, stmtAt, blockAt, read}
 use Rattle.definition.specs.Lookup.{nextOf, optionList, targetOf, unlessNext, jumpsFrom}
 use Rattle.definition.specs.Listing.{padded}
-use Rattle.records.proofs.Ranges.{gather-map, gather-append}
+use Rattle.records.proofs.Ranges.{gather-map, gather-append, gather-same, map-map}
+use Rattle.records.proofs.Parts.{stmts-are}
 use Rattle.values.proofs.Ranges.{map-length}
 use Rattle.reads.specs.Counts.{visit}
-use Rattle.reads.proofs.Statements.{gather-same, map-map, stmts-are}
 use Rattle.reads.proofs.Visits.{visit-append}
 use Rattle.marks.specs.Labels.{startAt, labelled, nextAt, takenAt, fallAt, edgesAt, targetAt, Labels}
 use Rattle.marks.proofs.Labelling.{map-same, marked-table}

@@ -21,7 +21,8 @@ use Rattle.definition.specs.Blocks.{isSave, readRoots}
 use Rattle.definition.specs.Listing.{padded}
 use Rattle.definition.proofs.Bools.{by-cond}
 use Rattle.definition.proofs.ListLaws.{Each, end}
-use Rattle.records.proofs.Ranges.{map-gather, gather-only}
+use Rattle.records.proofs.Ranges.{map-gather, gather-only, gather-same}
+use Rattle.records.proofs.Parts.{stmts-are}
 use Rattle.values.specs.declared.places.Places.{Places}
 use Rattle.values.specs.Keys.{keyOf, placesOf, keyed}
 use Rattle.values.specs.Tables.{at, numberOf, numbered, table}
@@ -32,7 +33,6 @@ use Rattle.reads.specs.Uses.{stmtUses, useStart, useStarts, useValue}
 use Rattle.reads.specs.Orders.{Ordered}
 use Rattle.reads.specs.Counts.{placed, visit, slots, between, Runs}
 use Rattle.reads.proofs.Trees.{Both, none-left, and-then, uses-are}
-use Rattle.reads.proofs.Statements.{gather-same, stmts-are}
 use Rattle.reads.proofs.Nodes.{IsUse, each-gather, stmt-nodes}
 use Rattle.reads.proofs.Visits.{stmt-run}
 use Rattle.reads.proofs.Named.{Names, mark-all, uses-named}

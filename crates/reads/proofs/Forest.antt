@@ -15,15 +15,13 @@ use Rattle.definition.specs.Edition.{Edition, statements, expressions, names}
 use Rattle.definition.specs.Lists.{all, count, gather, total, range, allBelow, sumBelow}
 use Rattle.definition.specs.Contents.{size, text, textAt, exprWord}
 use Rattle.definition.specs.References.{printable, nameSound, stmtText, exprText, children, roots, mentions, childrenLower, rootsInside, ownedOnce, refused5}
-use Rattle.definition.proofs.Bools.{is-true}
+use Rattle.definition.proofs.Bools.{is-true, both-true}
 use Rattle.definition.proofs.ListLaws.{total-append}
-use Rattle.records.proofs.Also.{and-both}
-use Rattle.records.proofs.Below.{all-fail, sum-add, sum-same}
+use Rattle.records.proofs.Below.{all-fail, sum-add, sum-same, sum-mono}
 use Rattle.records.proofs.Ranges.{gather-last}
 use Rattle.values.proofs.Ranges.{gather-length}
 use Rattle.reads.specs.Uses.{nodeUses, usesBelow, usesIn, stmtUses, useOrder}
 use Rattle.reads.specs.Filling.{usesUnder}
-use Rattle.reads.proofs.Statements.{sum-mono}
 use Rattle.reads.proofs.Filling.{under-is, under-none}
 
 -- ---- sums
@@ -167,4 +165,4 @@ order-short E f h =
     all printable (textAt E f 0 (size f (text E)))
     && allBelow (size f names) (nameSound E f) && allBelow (size f statements) (stmtText E f) && allBelow (size f expressions) (exprText E f)
     && allBelow (size f expressions) (childrenLower f) && allBelow (size f statements) (rootsInside f) in
-    order-few f (and-both others (ownedOnce f) (not-false _ h) .1)
+    order-few f (both-true others (ownedOnce f) (not-false _ h) .1)

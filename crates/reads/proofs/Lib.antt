@@ -1,5 +1,4 @@
 pub mod Trees
-pub mod Statements
 pub mod Filling
 pub mod Orders
 pub mod Visits

@@ -15,7 +15,9 @@ use Rattle.definition.specs.Values.{eqv}
 use Rattle.definition.specs.Ssa.{Stmt, uses}
 use Rattle.definition.specs.Read.{allTrees, kindAt, stmtAt, marked, read}
 use Rattle.definition.specs.Inline.{live, reads}
-use Rattle.records.proofs.Ranges.{gather-only, map-gather}
+use Rattle.records.proofs.Ranges.{gather-only, map-gather, gather-same}
+use Rattle.records.proofs.Below.{sum-mono}
+use Rattle.records.proofs.Parts.{stmts-are}
 use Rattle.values.specs.Keys.{placesOf}
 use Rattle.values.specs.Tables.{at, numbered, table}
 use Rattle.values.proofs.Ranges.{gather-length}
@@ -24,7 +26,6 @@ use Rattle.values.proofs.Tables.{table-same, zeros-are}
 use Rattle.reads.specs.Uses.{stmtUses, useStart, useValue}
 use Rattle.reads.specs.Counts.{raised, visit, slots, liveUses, Numbers, Runs}
 use Rattle.reads.proofs.Trees.{uses-are}
-use Rattle.reads.proofs.Statements.{gather-same, sum-mono, stmts-are}
 use Rattle.reads.proofs.Nodes.{each-gather, live-nodes}
 use Rattle.reads.proofs.Visits.{liveFrom, start-at}
 use Rattle.reads.proofs.Named.{uses-named, raise-all}

@@ -17,14 +17,14 @@ use Rattle.definition.specs.Ssa.{Phi}
 use Rattle.definition.specs.Read.{phiAt, read}
 use Rattle.definition.specs.Inline.{phiReads}
 use Rattle.words.proofs.Laws.{word-small}
-use Rattle.records.proofs.Ranges.{gather-map, gather-last}
+use Rattle.records.proofs.Ranges.{gather-map, gather-last, gather-same, map-map}
+use Rattle.records.proofs.Parts.{owned-parts, runs, phis-are}
 use Rattle.values.specs.Keys.{inputKey, placesOf}
 use Rattle.values.specs.Tables.{at, numbered, table}
-use Rattle.values.proofs.Placed.{at-input, input-here, keyed-length, owned-inputs}
+use Rattle.values.proofs.Placed.{at-input, input-here, keyed-length}
 use Rattle.values.proofs.Tables.{zeros-are}
 use Rattle.reads.specs.Counts.{placed, visit, slots, Numbers}
 use Rattle.reads.proofs.Trees.{Both, none-left, and-then, both-append}
-use Rattle.reads.proofs.Statements.{gather-same, map-map, runs, phis-are}
 use Rattle.reads.proofs.Named.{Names, mark-all}
 
 -- ---- lists side by side
@@ -73,7 +73,7 @@ module _ (f : List ℕ) (n : ℕ) (own : owned f ≡ true) (room : placesOf f .t
   slots-are : slots (numbered f n) (placesOf f .inputs) (range 0 (size f inputs)) ≡ gather (λ i. map inputSlot (range (firstInput f i) (phiInputs f i))) (range 0 (size f phis))
   unfolding slots firstInput inputSlot
   slots-are =
-      sym (runs inputSlot (phiInputs f) (size f phis) ∙ ap (λ (m : ℕ). map inputSlot (range 0 m)) (owned-inputs f own))
+      sym (runs inputSlot (phiInputs f) (size f phis) ∙ ap (λ (m : ℕ). map inputSlot (range 0 m)) (owned-parts f own .all-inputs))
 
   values-are : (E : Edition) → phiReads (read E f) ≡ gather (λ i. map (inputValue i) (range (firstInput f i) (phiInputs f i))) (range 0 (size f phis))
   unfolding phiReads phiAt inputValue

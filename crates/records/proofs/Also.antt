@@ -1,11 +1,7 @@
--- Tests joined by `&&`: what both say, and where the first decides.
+-- Tests joined by `&&`: in another order, and where the first decides.
 use mathlib.Core.Path.{_≡_, refl}
 use mathlib.Core.Bool.{Bool, true, false, not, _&&_}
 use borrow.Author.Tests.{not-true, not-false}
-
-pub and-both : (a b : Bool) → (a && b) ≡ true → (a ≡ true) × (b ≡ true)
-and-both true b e = (refl, e)
-and-both false b e = (e, cc)
 
 pub and-cross : (a b c d : Bool) → (a && b && (c && d)) ≡ (a && c && (b && d))
 and-cross true true c d = refl

@@ -85,3 +85,9 @@ pub sum-same : (g h : ℕ → ℕ) (n : ℕ) → ((i : ℕ) → g i ≡ h i) →
 unfolding sumBelow
 sum-same g h zero e = refl
 sum-same g h (suc n) e = ap₂ (λ (a b : ℕ). a + b) (sum-same g h n e) (e n)
+
+-- a sum of parts that are no greater is no greater
+pub sum-mono : (g h : ℕ → ℕ) (n : ℕ) → ((i : ℕ) → i < n → g i ≤ h i) → sumBelow n g ≤ sumBelow n h
+unfolding sumBelow
+sum-mono g h zero p = omega arith
+sum-mono g h (suc n) p = omega (arith, sum-mono g h n (λ i k. p i (omega arith)), p n (omega arith))

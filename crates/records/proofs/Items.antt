@@ -5,18 +5,18 @@ use mathlib.Core.Bool.{true, false, _&&_}
 use mathlib.Core.List.{List}
 use Prim.Native.Nat.{ℕ, _+_, _*_, _≤_, _<_}
 use native.Mathlib.Omega.{arith}
-use lib.Dec.{eqb}
 use lib.ListN.{getD}
 use mir.Syntax.{w8}
 use mir.Val.{Fits}
-use borrow.Author.Tests.{eqb-true, not-false}
+use borrow.Author.Tests.{not-false}
 use Rattle.words.proofs.Laws.{word-small}
-use Rattle.definition.specs.Edition.{Edition, blocks, phis, inputs, statements, lists}
+use Rattle.definition.specs.Edition.{Edition, statements, lists}
 use Rattle.definition.specs.Contents.{contents, size}
-use Rattle.definition.specs.Owners.{exprItems, items, firstPhi, firstStmt, firstInput, firstItem}
+use Rattle.definition.specs.Owners.{exprItems, items, firstItem}
 use Rattle.definition.specs.Shape.{adjoin, owned, shaped, refused4}
+use Rattle.definition.proofs.Bools.{both-true}
 use Rattle.records.proofs.Below.{sum-start, sum-turn, sum-le}
-use Rattle.records.proofs.Also.{and-both}
+use Rattle.records.proofs.Parts.{owned-parts}
 
 pub first-start : (f : List ℕ) → 0 ≡ firstItem f 0
 unfolding firstItem
@@ -31,7 +31,7 @@ pub shape-owned : (E : Edition) (f : List ℕ) → refused4 E f ≡ false → ow
 unfolding refused4
 shape-owned E f h =
     let adjoining = adjoin f (contents E) 0 (E .sections) in
-    and-both adjoining (owned f) (and-both (adjoining && owned f) (shaped f) (not-false _ h) .0) .1
+    both-true adjoining (owned f) (both-true (adjoining && owned f) (shaped f) (not-false _ h) .0) .1
 
 module _ (f : List ℕ) (bytes : (k : ℕ) → Fits w8 (getD f k 0)) where
   pub size-small : (s : ℕ) → size f s < 4294967296
@@ -39,11 +39,7 @@ module _ (f : List ℕ) (bytes : (k : ℕ) → Fits w8 (getD f k 0)) where
   size-small s = word-small f bytes (20 + 8 * s)
 
   pub items-few : owned f ≡ true → firstItem f (size f statements) < 4294967296
-  unfolding owned
-  items-few h =
-      let others = eqb (firstPhi f (size f blocks)) (size f phis) && eqb (firstStmt f (size f blocks)) (size f statements) && eqb (firstInput f (size f phis)) (size f inputs) in
-      let e = eqb-true (firstItem f (size f statements)) (size f lists) (and-both others (eqb (firstItem f (size f statements)) (size f lists)) h .1) in
-      omega (arith, size-small lists)
+  items-few h = omega (arith, owned-parts f h .all-items, size-small lists)
 
 -- where the items of all statements are few, so are those of each
 module _ (f : List ℕ) (few : firstItem f (size f statements) < 4294967296) where

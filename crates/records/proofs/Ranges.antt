@@ -1,5 +1,5 @@
 -- Lists over a range of numbers: a range goes on where its first part ends, or begins elsewhere; lists one behind the other; the first of a list.
-use mathlib.Core.Path.{_≡_, refl, sym, ap, _∙_}
+use mathlib.Core.Path.{_≡_, refl, sym, ap, ap₂, _∙_}
 use mathlib.Core.Bool.{Bool, cond}
 use mathlib.Core.List.{List, [], _∷_, _++_, map, map-append, append-nil, append-assoc}
 use Prim.Native.Nat.{ℕ, zero, suc, _+_, _≤_}
@@ -64,6 +64,15 @@ module _ {A : Type 0} {B : Type 0} {C : Type 0} where
   gather-only g p h (x ∷ xs) =
       let r = gather-only g p h xs in
       by-test (p (h x)) (λ t. rw t (ap (λ (l : List C). g (h x) ++ l) r)) (λ t. rw t r)
+
+pub gather-same : {A : Type 0} {B : Type 0} (g h : A → List B) → ((x : A) → g x ≡ h x) → (xs : List A) → gather g xs ≡ gather h xs
+unfolding gather
+gather-same g h e [] = refl
+gather-same g h e (x ∷ xs) = ap₂ (λ (a b : List _). a ++ b) (e x) (gather-same g h e xs)
+
+pub map-map : {A : Type 0} {B : Type 0} {C : Type 0} (h : B → C) (g : A → B) (xs : List A) → map h (map g xs) ≡ map (λ x. h (g x)) xs
+map-map h g [] = refl
+map-map h g (x ∷ xs) = ap (λ l. h (g x) ∷ l) (map-map h g xs)
 
 -- ---- the first of a list
 pub take-less : (c a n : ℕ) → c ≤ n → take c (range a n) ≡ range a c

@@ -14,10 +14,10 @@ use Rattle.definition.specs.Words.{word}
 use Rattle.definition.specs.Edition.{Section}
 use Rattle.definition.specs.Contents.{contents, offset, size}
 use Rattle.definition.specs.Shape.{refused2, tooMany, refused3, bytesOf, adjoin}
+use Rattle.definition.proofs.Bools.{both-true}
 use Rattle.records.specs.declared.edition.Edition.{Edition}
 use Rattle.records.specs.Editions.{wordsAt, limitAt, sectionAt, editionOf}
 use Rattle.shape.specs.Shapes.{bytesIn, follows}
-use Rattle.records.proofs.Also.{and-both}
 
 pub refused2-is : (e : Edition) (f : List ℕ) (n a b : ℕ) → n ≡ contents (editionOf e) → a ≡ word f 0 → b ≡ word f 12
     → (ltb (length f) n || not (eqb a (e .number)) || not (eqb b 0)) ≡ refused2 (editionOf e) f
@@ -104,7 +104,7 @@ follows-is f s w n from o b h p q =
 -- ---- sections
 pub follows-within : (f : List ℕ) (s w n from : ℕ) → follows f s w n from ≡ true → from + bytesIn w n ≤ length f
 unfolding follows
-follows-within f s w n from e = leb-true (from + bytesIn w n) (length f) (and-both (eqb (offset f s) from) _ e .1)
+follows-within f s w n from e = leb-true (from + bytesIn w n) (length f) (both-true (eqb (offset f s) from) _ e .1)
 
 -- where the second test fails, so does what stands in its place
 and-fails : (a b c : Bool) → (a && b) ≡ false → (b ≡ false → c ≡ false) → false ≡ (a && c)
@@ -129,7 +129,7 @@ module _ (e : Edition) (f : List ℕ) where
       → adjoin f from s (sectionsFrom e s) ≡ adjoin f (from + b) (s + 1) (sectionsFrom e (s + 1))
   unfolding adjoin bytesOf bytesIn follows
   adjoin-turn s w n from b h p q r t =
-      let o = eqb-true (offset f s) from (and-both (eqb (offset f s) from) (leb (from + bytesIn w n) (length f)) t .0) in
+      let o = eqb-true (offset f s) from (both-true (eqb (offset f s) from) (leb (from + bytesIn w n) (length f)) t .0) in
       rw (sections-turn e s h, eq-eqb (offset f s) from o, ← p, ← q, ← r)
 
   pub adjoin-stop : (s w n from : ℕ) → s < e .sections → w ≡ wordsAt e s → n ≡ size f s → follows f s w n from ≡ false

@@ -19,13 +19,14 @@ use Rattle.definition.specs.Listing.{padded}
 use Rattle.records.proofs.Items.{size-small}
 use Rattle.records.proofs.Below.{sum-start, sum-turn, sum-le}
 use Rattle.records.proofs.Padded.{drop-zeros}
+use Rattle.records.proofs.Parts.{owned-parts}
 use Rattle.values.specs.declared.places.Places.{Places}
 use Rattle.values.specs.Keys.{inputKey, itemKey, inputKeys, itemKeys, keysOf, placesOf, keyed}
 use Rattle.values.specs.Tables.{at}
 use Rattle.values.specs.Laid.{laid, keyAt, itemAt}
 use Rattle.values.proofs.Ranges.{at-left, at-right, map-length, at-map, at-below}
 use Rattle.values.proofs.Tables.{same-at}
-use Rattle.values.proofs.Placed.{argList, phiList, inputList, stmtList, itemList, exprList, before-inputs, before-stmts, before-items, before-exprs, args-long, inputs-at, stmts-at, items-at, exprs-at, keys-parts, places-length, items-length, owned-inputs}
+use Rattle.values.proofs.Placed.{argList, phiList, inputList, stmtList, itemList, exprList, before-inputs, before-stmts, before-items, before-exprs, args-long, inputs-at, stmts-at, items-at, exprs-at, keys-parts, places-length, items-length}
 
 -- ---- one list behind another
 laid-append : (xs ys t : List ℕ) (p : ℕ) → laid t p (xs ++ ys) ≡ laid (laid t p xs) (p + length xs) ys
@@ -166,4 +167,4 @@ module _ (f : List ℕ) (bytes : (k : ℕ) → Fits w8 (getD f k 0)) where
       rw is (omega arith, omega arith, omega arith, omega arith, omega arith)
 
   pub inputs-few : owned f ≡ true → firstInput f (size f phis) < 4294967296
-  inputs-few own = omega (arith, owned-inputs f own, size-small f bytes inputs)
+  inputs-few own = omega (arith, owned-parts f own .all-inputs, size-small f bytes inputs)

@@ -1,21 +1,19 @@
 -- What stands at each place of a file's keys: a section's list begins behind the lists of the sections before it, and what an owner has begins behind
 -- what the owners before it have.
 use mathlib.Core.Path.{_≡_, refl, sym, ap, _∙_}
-use mathlib.Core.Bool.{true, _&&_}
+use mathlib.Core.Bool.{true}
 use mathlib.Core.List.{List, _++_, map, append-assoc}
 use Prim.Native.Nat.{ℕ, _+_, _-_, _≤_, _<_}
 use native.Mathlib.Omega.{arith}
-use lib.Dec.{eqb}
 use lib.ListN.{length, replicate, length-append, length-replicate}
-use borrow.Author.Tests.{eqb-true}
-use Rattle.definition.specs.Edition.{args, blocks, phis, inputs, statements, lists, expressions}
+use Rattle.definition.specs.Edition.{args, phis, inputs, statements, expressions}
 use Rattle.definition.specs.Lists.{gather, range, sumBelow}
 use Rattle.definition.specs.Contents.{size}
-use Rattle.definition.specs.Owners.{exprItems, valueItems, items, phiInputs, firstPhi, firstStmt, firstInput, firstItem}
+use Rattle.definition.specs.Owners.{exprItems, valueItems, items, phiInputs, firstInput, firstItem}
 use Rattle.definition.specs.Shape.{owned}
 use Rattle.definition.specs.Listing.{padded}
 use Rattle.records.proofs.Below.{sum-le, sum-turn, sum-same}
-use Rattle.records.proofs.Also.{and-both}
+use Rattle.records.proofs.Parts.{owned-parts}
 use Rattle.values.specs.Keys.{argKey, phiKey, inputKey, stmtKey, itemKey, exprKey, inputKeys, itemKeys, keysOf, placesOf, keyed}
 use Rattle.values.specs.Tables.{at}
 use Rattle.values.proofs.Ranges.{at-left, at-right, map-length, at-map, at-below, gather-length, at-gather}
@@ -67,22 +65,6 @@ module _ (f : List ℕ) where
   unfolding firstItem
   items-before i = sum-same (λ k. length (itemKeys f k)) (items f) i items-length
 
-  -- what is owned comes out
-  pub owned-inputs : owned f ≡ true → firstInput f (size f phis) ≡ size f inputs
-  unfolding owned
-  owned-inputs h =
-      let two = eqb (firstPhi f (size f blocks)) (size f phis) && eqb (firstStmt f (size f blocks)) (size f statements) in
-      let i = eqb (firstInput f (size f phis)) (size f inputs) in
-      let l = eqb (firstItem f (size f statements)) (size f lists) in
-      eqb-true (firstInput f (size f phis)) (size f inputs) (and-both two i (and-both (two && i) l h .0) .1)
-
-  pub owned-items : owned f ≡ true → firstItem f (size f statements) ≡ size f lists
-  unfolding owned
-  owned-items h =
-      let three = eqb (firstPhi f (size f blocks)) (size f phis) && eqb (firstStmt f (size f blocks)) (size f statements) && eqb (firstInput f (size f phis)) (size f inputs) in
-      let l = eqb (firstItem f (size f statements)) (size f lists) in
-      eqb-true (firstItem f (size f statements)) (size f lists) (and-both three l h .1)
-
   -- ---- how long the lists are
   pub args-long : length (argList f) ≡ size f args
   args-long = map-length (argKey f) 0 (size f args)
@@ -120,7 +102,7 @@ module _ (f : List ℕ) where
 
   pub stmts-at : owned f ≡ true → length before-stmts ≡ placesOf f .stmts
   unfolding placesOf
-  stmts-at own = omega (arith, length-append before-inputs (inputList f), inputs-at, inputs-long, owned-inputs own)
+  stmts-at own = omega (arith, length-append before-inputs (inputList f), inputs-at, inputs-long, owned-parts f own .all-inputs)
 
   pub items-at : owned f ≡ true → length before-items ≡ placesOf f .items
   unfolding placesOf
@@ -128,7 +110,7 @@ module _ (f : List ℕ) where
 
   pub exprs-at : owned f ≡ true → length before-exprs ≡ placesOf f .exprs
   unfolding placesOf
-  exprs-at own = omega (arith, length-append before-items (itemList f), items-at own, items-long, owned-items own)
+  exprs-at own = omega (arith, length-append before-items (itemList f), items-at own, items-long, owned-parts f own .all-items)
 
   pub keys-parts : keysOf f ≡ before-exprs ++ exprList f
   unfolding keysOf
@@ -171,12 +153,12 @@ module _ (f : List ℕ) where
 
   pub input-here : owned f ≡ true → (i j : ℕ) → i < size f phis → j < phiInputs f i → placesOf f .inputs + (firstInput f i + j) < placesOf f .total
   unfolding placesOf
-  input-here own i j h k = omega (arith, input-below i j h k, owned-inputs own)
+  input-here own i j h k = omega (arith, input-below i j h k, owned-parts f own .all-inputs)
 
   pub item-here : owned f ≡ true → (i j : ℕ) → i < size f statements → j < valueItems f i
       → placesOf f .items + (firstItem f i + exprItems f i + j) < placesOf f .total
   unfolding placesOf items
-  item-here own i j h k = omega (arith, item-below i (exprItems f i + j) h (omega arith), owned-items own)
+  item-here own i j h k = omega (arith, item-below i (exprItems f i + j) h (omega arith), owned-parts f own .all-items)
 
   -- ---- in scratch of n numbers
   module _ (n : ℕ) where

@@ -11,8 +11,8 @@ use Rattle.definition.specs.Contents.{size, argAt, phiWord, itemWord, exprWord}
 use Rattle.definition.specs.Owners.{stmtKind, stmtField, exprItems, valueItems, firstItem}
 use Rattle.definition.specs.Values.{value}
 use Rattle.definition.specs.Meaning.{isRegister, argRegs, phiValue, assigned, callReturns, itemValues, strict, loose, useRegister, registers}
-use Rattle.records.proofs.Also.{and-both}
 use Rattle.definition.proofs.LoweredRead.{below-at}
+use Rattle.definition.proofs.Bools.{both-true}
 use Rattle.meaning.specs.Defined.{named}
 use Rattle.meaning.proofs.Ranges.{all-append, all-one, all-map}
 use Rattle.meaning.proofs.RegistersNamed.{argNamed, phiNamed, assignNamed, looseNamed, args-named, phis-named, assigns-named, loose-named}
@@ -27,9 +27,9 @@ module _ (f : List ℕ) (reg : registers f ≡ true) where
       let a = all isRegister (argRegs f) in
       let b = all named (strict f) in
       let c = all named (loose f) in
-      let three = and-both (a && b && c) (allBelow (size f expressions) (useRegister f)) reg in
-      let two = and-both (a && b) c (three .0) in
-      let one = and-both a b (two .0) in
+      let three = both-true (a && b && c) (allBelow (size f expressions) (useRegister f)) reg in
+      let two = both-true (a && b) c (three .0) in
+      let one = both-true a b (two .0) in
       (one .0, one .1, two .1, three .1)
 
   strict-parts : (all named (map (phiValue f) (range 0 (size f phis))) ≡ true) × (all named (gather (assigned f) (range 0 (size f statements))) ≡ true)
@@ -37,11 +37,11 @@ module _ (f : List ℕ) (reg : registers f ≡ true) where
   strict-parts =
       let ps = map (phiValue f) (range 0 (size f phis)) in
       let vs = gather (assigned f) (range 0 (size f statements)) in
-      and-both (all named ps) (all named vs) (sym (all-append named ps vs) ∙ parts .1)
+      both-true (all named ps) (all named vs) (sym (all-append named ps vs) ∙ parts .1)
 
   loose-parts : (i : ℕ) → i < size f statements → (all named (callReturns f i) ≡ true) × (all named (itemValues f i) ≡ true)
   loose-parts i h =
-      and-both (all named (callReturns f i)) (all named (itemValues f i))
+      both-true (all named (callReturns f i)) (all named (itemValues f i))
       (sym (all-append named (callReturns f i) (itemValues f i)) ∙ below-at (size f statements) (looseNamed f) (sym (loose-named f) ∙ parts .2) i h)
 
   pub arg-small : (i : ℕ) → i < size f args → argAt f i < 16
