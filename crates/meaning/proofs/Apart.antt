@@ -13,7 +13,7 @@ use Rattle.definition.specs.Values.{RSP}
 use Rattle.definition.specs.Meaning.{argRegs, rising}
 use Rattle.meaning.specs.declared.distinct.Keys.{Keys}
 use Rattle.meaning.specs.Choice.{keyAt}
-use Rattle.meaning.proofs.Ranges.{among-below}
+use Rattle.meaning.proofs.Twice.{among-below}
 
 -- x and y, which were read as a and b
 module _ (a b x y : ℕ) (p : x ≡ a) (q : y ≡ b) where

@@ -1,5 +1,5 @@
 // No argument and no block start stands twice, none of the arguments is RSP, and the names rise.
-use crate::value::RSP;
+use defined::value::RSP;
 use records::contents::ARGS;
 use records::contents::BLOCKS;
 use records::contents::NAMES;

@@ -4,7 +4,7 @@ use crate::distinct::args_spare_rsp;
 use crate::distinct::names_rise;
 use crate::distinct::starts_distinct;
 use crate::registers_named::registers_named;
-use crate::slots::defined_once;
+use defined::slots::defined_once;
 use records::contents::STATEMENTS;
 use records::contents::offset_of;
 use records::contents::size_of;

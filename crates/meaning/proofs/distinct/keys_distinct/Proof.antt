@@ -5,7 +5,7 @@ use borrow.Author.Needs.{needs}
 use native.Mathlib.Omega.{arith}
 use Rattle.definition.specs.Lists.{allBelow}
 use Rattle.meaning.proofs.Apart.{keyNew}
-use Rattle.meaning.proofs.Ranges.{distinct-below}
+use Rattle.meaning.proofs.Twice.{distinct-below}
 use Rattle.records.proofs.Below.{all-start, all-turn, all-fail, all-done}
 use Rattle.meaning.proofs.distinct.keys_distinct.Statement.{statement}
 use Rattle.meaning.proofs.distinct.keys_distinct.Tie as tie
