@@ -6,9 +6,11 @@ use Prim.Native.Nat.{ℕ}
 use lib.ListN.{replicate}
 use Rattle.definition.specs.Lists.{among, distinct}
 use Rattle.definition.specs.Values.{RSP}
-use Rattle.definition.specs.Meaning.{bits, argRegs, starts, rising, registers, refused6}
+use Rattle.definition.specs.Meaning.{bits, argRegs, rising, registers, refused6}
 use Rattle.records.specs.declared.edition.Edition.{Edition}
 use Rattle.records.specs.Editions.{editionOf}
+use Rattle.meaning.specs.declared.distinct.Keys.{Keys}
+use Rattle.meaning.specs.Choice.{keys}
 
 pub bits-of : (f : List ℕ) (r s : ℕ) → r ≡ bits f → s ≡ bits f → r ≡ s
 bits-of f r s p q = p ∙ sym q
@@ -17,14 +19,11 @@ module _ (f : List ℕ) (r s : Bool) where
   pub registers-named : r ≡ registers f → s ≡ registers f → r ≡ s
   registers-named p q = p ∙ sym q
 
-  pub args-distinct : r ≡ distinct (argRegs f) → s ≡ distinct (argRegs f) → r ≡ s
-  args-distinct p q = p ∙ sym q
+  pub keys-distinct : (k : Keys) → r ≡ distinct (keys f k) → s ≡ distinct (keys f k) → r ≡ s
+  keys-distinct k p q = p ∙ sym q
 
   pub args-spare-rsp : r ≡ not (among RSP (argRegs f)) → s ≡ not (among RSP (argRegs f)) → r ≡ s
   args-spare-rsp p q = p ∙ sym q
-
-  pub starts-distinct : r ≡ distinct (starts f) → s ≡ distinct (starts f) → r ≡ s
-  starts-distinct p q = p ∙ sym q
 
   pub names-rise : r ≡ rising f → s ≡ rising f → r ≡ s
   names-rise p q = p ∙ sym q
