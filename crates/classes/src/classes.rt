@@ -2,7 +2,7 @@
 use crate::roots::flatten;
 use crate::roots::reset;
 use crate::roots::union;
-use meaning::value::RSP;
+use defined::value::RSP;
 use records::contents::PHIS;
 use records::contents::size_of;
 use records::owners::phi_inputs;

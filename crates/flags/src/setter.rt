@@ -3,7 +3,7 @@ use crate::comparison::Operands;
 use crate::comparison::Setter;
 use crate::comparison::Setting;
 use crate::same::same_expr;
-use meaning::value::RSP;
+use defined::value::RSP;
 use statements::statement::Flags;
 use statements::statement::Kind;
 use statements::statement::stmt_at;

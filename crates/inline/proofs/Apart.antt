@@ -16,8 +16,8 @@ use Rattle.definition.specs.Values.{Value, eqv}
 use Rattle.definition.specs.Meaning.{phiValue, assigned, strict, loose, definedOnce}
 use Rattle.definition.proofs.Bools.{by-test, both-true, or-cases}
 use Rattle.definition.proofs.ListLaws.{Each, end, _▸_, each-to, bit, count-cons, count-append, any-none}
-use Rattle.meaning.specs.Defined.{lone}
-use Rattle.meaning.proofs.Defining.{once-is}
+use Rattle.defined.specs.Defined.{lone}
+use Rattle.defined.proofs.Defining.{once-is}
 use Rattle.records.proofs.Ranges.{gather-append, range-parts}
 use Rattle.records.proofs.Parts.{owned-parts}
 use Rattle.definition.proofs.Equal.{eqv-true}

@@ -3,7 +3,7 @@ pub mod later;
 
 use crate::later::Later;
 use crate::later::later_read;
-use meaning::value::RSP;
+use defined::value::RSP;
 use records::contents::BLOCKS;
 use records::contents::size_of;
 use records::owners::ASSIGN;

@@ -6,14 +6,15 @@ use Prim.Native.Nat.{ℕ, _+_, _-_}
 use native.Mathlib.Omega.{arith}
 use lib.Dec.{eqb, ltb}
 use borrow.Author.Tests.{eq-eqb, ne-eqb}
-use Rattle.definition.specs.Edition.{args, names}
-use Rattle.definition.specs.Lists.{allBelow, among}
-use Rattle.definition.specs.Contents.{size, argAt, nameLong}
+use Rattle.definition.specs.Edition.{args, blocks, names}
+use Rattle.definition.specs.Lists.{allBelow, among, distinct}
+use Rattle.definition.specs.Contents.{size, argAt, blockLong, nameLong}
 use Rattle.definition.specs.Values.{RSP}
-use Rattle.definition.specs.Meaning.{argRegs, rising}
+use Rattle.definition.specs.Meaning.{argRegs, starts, rising}
 use Rattle.meaning.specs.declared.distinct.Keys.{Keys}
-use Rattle.meaning.specs.Choice.{keyAt}
-use Rattle.meaning.proofs.Ranges.{among-below}
+use Rattle.meaning.specs.declared.distinct.Keys.the-variants.{Args, Starts}
+use Rattle.meaning.specs.Choice.{keyAt, keyCount, keys}
+use Rattle.meaning.proofs.Twice.{among-below, distinct-below}
 
 -- x and y, which were read as a and b
 module _ (a b x y : ℕ) (p : x ≡ a) (q : y ≡ b) where
@@ -29,6 +30,11 @@ module _ (f : List ℕ) where
 
   abbrev pub keyNew : Keys → ℕ → Bool
   keyNew k i = allBelow i (keyApart k i)
+
+  pub keys-new : (k : Keys) → distinct (keys f k) ≡ allBelow (keyCount f k) (keyNew k)
+  unfolding argRegs starts
+  keys-new Args = distinct-below (argAt f) (size f args)
+  keys-new Starts = distinct-below (λ i. blockLong f i 0) (size f blocks)
 
   abbrev pub argSpares : ℕ → Bool
   argSpares i = not (eqb RSP (argAt f i))

@@ -1,12 +1,6 @@
-pub mod Ranges
-pub mod Values
-pub mod Tested
+pub mod Twice
 pub mod RegistersNamed
 pub mod Choice
 pub mod Apart
-pub mod Defining
-pub mod Bits
-pub mod Taking
-pub mod Alone
 pub mod Refusing
 pub mod Unique

@@ -8,10 +8,10 @@ use Rattle.definition.specs.Edition.{args, phis, statements, expressions}
 use Rattle.definition.specs.Lists.{all, gather, range, allBelow}
 use Rattle.definition.specs.Contents.{size, argAt, exprWord}
 use Rattle.definition.specs.Meaning.{isRegister, argRegs, phiValue, assigned, callReturns, itemValues, strict, loose, useRegister, registers}
-use Rattle.meaning.specs.Defined.{named}
+use Rattle.meaning.specs.Choice.{named}
 use Rattle.records.proofs.Also.{also}
-use Rattle.meaning.proofs.Ranges.{all-map, all-gather}
-use Rattle.meaning.proofs.Tested.{loose-all}
+use Rattle.defined.proofs.Ranges.{all-map, all-gather}
+use Rattle.defined.proofs.Tested.{loose-all}
 
 module _ (f : List ℕ) where
   abbrev pub argNamed : ℕ → Bool

@@ -1,51 +1,17 @@
--- Each public contract of this crate says the answer exactly: by an equation, or by one for a view that tells answers apart.
-use mathlib.Core.Path.{_≡_, refl, sym, ap, _∙_}
+-- Each public contract of this crate says the answer exactly, by an equation.
+use mathlib.Core.Path.{_≡_, sym, _∙_}
 use mathlib.Core.Bool.{Bool, not}
 use mathlib.Core.List.{List}
-use Prim.Native.Nat.{ℕ, _+_}
+use Prim.Native.Nat.{ℕ}
 use lib.ListN.{replicate}
 use Rattle.definition.specs.Lists.{among, distinct}
-use Rattle.definition.specs.Owners.{firstItem}
-use Rattle.definition.specs.Values.{Value as DValue, RSP, eqv}
-use Rattle.definition.specs.Meaning.{bits, argRegs, starts, rising, phiValue, assigned, callReturns, registers, definedOnce, refused6}
+use Rattle.definition.specs.Values.{RSP}
+use Rattle.definition.specs.Meaning.{bits, argRegs, rising, registers, refused6}
 use Rattle.records.specs.declared.edition.Edition.{Edition}
 use Rattle.records.specs.Editions.{editionOf}
-use Rattle.meaning.specs.declared.value.Value.{Value}
-use Rattle.meaning.specs.declared.value.Defined.{Defined}
-use Rattle.meaning.specs.declared.value.Defined.the-variants.{Nothing, One}
-use Rattle.meaning.specs.Defined.{valueOf, listOf, itemValue}
+use Rattle.meaning.specs.declared.distinct.Keys.{Keys}
+use Rattle.meaning.specs.Choice.{keys}
 
--- ---- the views
-same-view : (v w : Value) → valueOf v ≡ valueOf w → v ≡ w
-same-view v w e = ap (λ (d : DValue). record { reg = d .reg; ver = d .ver }) e
-
-same-list : (d e : Defined) → listOf d ≡ listOf e → d ≡ e
-same-list Nothing Nothing h = refl
-same-list Nothing (One w) h = cc
-same-list (One v) Nothing h = cc
-same-list (One v) (One w) h = let k : valueOf v ≡ valueOf w = cc in ap One (same-view v w k)
-
--- ---- values
-pub same-value : (a b : Value) (r s : Bool) → r ≡ eqv (valueOf a) (valueOf b) → s ≡ eqv (valueOf a) (valueOf b) → r ≡ s
-same-value a b r s p q = p ∙ sym q
-
-module _ (f : List ℕ) (i : ℕ) where
-  pub phi-value : (v w : Value) → valueOf v ≡ phiValue f i → valueOf w ≡ phiValue f i → v ≡ w
-  phi-value v w p q = same-view v w (p ∙ sym q)
-
-  pub item-value : (v w : Value) → valueOf v ≡ itemValue f i → valueOf w ≡ itemValue f i → v ≡ w
-  item-value v w p q = same-view v w (p ∙ sym q)
-
-  pub assigned-by : (d e : Defined) → listOf d ≡ assigned f i → listOf e ≡ assigned f i → d ≡ e
-  assigned-by d e p q = same-list d e (p ∙ sym q)
-
-  pub returned-by : (d e : Defined) → listOf d ≡ callReturns f i → listOf e ≡ callReturns f i → d ≡ e
-  returned-by d e p q = same-list d e (p ∙ sym q)
-
-  pub next-item : (r s : ℕ) → r ≡ firstItem f (i + 1) → s ≡ firstItem f (i + 1) → r ≡ s
-  next-item r s p q = p ∙ sym q
-
--- ---- the check and its parts
 pub bits-of : (f : List ℕ) (r s : ℕ) → r ≡ bits f → s ≡ bits f → r ≡ s
 bits-of f r s p q = p ∙ sym q
 
@@ -53,25 +19,15 @@ module _ (f : List ℕ) (r s : Bool) where
   pub registers-named : r ≡ registers f → s ≡ registers f → r ≡ s
   registers-named p q = p ∙ sym q
 
-  pub args-distinct : r ≡ distinct (argRegs f) → s ≡ distinct (argRegs f) → r ≡ s
-  args-distinct p q = p ∙ sym q
+  pub keys-distinct : (k : Keys) → r ≡ distinct (keys f k) → s ≡ distinct (keys f k) → r ≡ s
+  keys-distinct k p q = p ∙ sym q
 
   pub args-spare-rsp : r ≡ not (among RSP (argRegs f)) → s ≡ not (among RSP (argRegs f)) → r ≡ s
   args-spare-rsp p q = p ∙ sym q
 
-  pub starts-distinct : r ≡ distinct (starts f) → s ≡ distinct (starts f) → r ≡ s
-  starts-distinct p q = p ∙ sym q
-
   pub names-rise : r ≡ rising f → s ≡ rising f → r ≡ s
   names-rise p q = p ∙ sym q
 
-  pub scan-once : r ≡ definedOnce f → s ≡ definedOnce f → r ≡ s
-  scan-once p q = p ∙ sym q
-
 -- with the scratch at exit, u or v
-module _ (n : ℕ) (f u v : List ℕ) (r s : Bool) where
-  pub defined-once : (r ≡ definedOnce f) × (u ≡ replicate n 0) → (s ≡ definedOnce f) × (v ≡ replicate n 0) → (r ≡ s) × (u ≡ v)
-  defined-once p q = (p .0 ∙ sym (q .0), p .1 ∙ sym (q .1))
-
-  pub check-6 : (e : Edition) → (r ≡ refused6 (editionOf e) f) × (u ≡ replicate n 0) → (s ≡ refused6 (editionOf e) f) × (v ≡ replicate n 0) → (r ≡ s) × (u ≡ v)
-  check-6 e p q = (p .0 ∙ sym (q .0), p .1 ∙ sym (q .1))
+pub check-6 : (n : ℕ) (f u v : List ℕ) (r s : Bool) (e : Edition) → (r ≡ refused6 (editionOf e) f) × (u ≡ replicate n 0) → (s ≡ refused6 (editionOf e) f) × (v ≡ replicate n 0) → (r ≡ s) × (u ≡ v)
+check-6 n f u v r s e p q = (p .0 ∙ sym (q .0), p .1 ∙ sym (q .1))

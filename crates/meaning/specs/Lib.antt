@@ -1,4 +1,2 @@
-pub mod Defined
-pub mod Slots
 pub mod Parts
 pub mod Choice

@@ -1,5 +1,5 @@
 // No argument and no block start stands twice, none of the arguments is RSP, and the names rise.
-use crate::value::RSP;
+use defined::value::RSP;
 use records::contents::ARGS;
 use records::contents::BLOCKS;
 use records::contents::NAMES;
@@ -9,17 +9,16 @@ use records::contents::name_long;
 use records::contents::size_of;
 ghost use mathlib.Core.Path.{_≡_};
 ghost use mathlib.Core.Bool.{not};
-ghost use mathlib.Core.List.{map};
 ghost use lib.Dec.{eqb, ltb};
 ghost use Prim.Native.Nat.{_+_, _<_};
-ghost use Rattle.definition.specs.Lists.{range, allBelow, among, distinct};
+ghost use Rattle.definition.specs.Lists.{allBelow, among, distinct};
 ghost use Rattle.definition.specs.Contents.{nameLong};
 ghost use Rattle.definition.specs.Values.{RSP};
-ghost use Rattle.definition.specs.Meaning.{argRegs, starts, rising};
-ghost use Rattle.meaning.specs.Choice.{keyAt};
+ghost use Rattle.definition.specs.Meaning.{argRegs, rising};
+ghost use Rattle.meaning.specs.Choice.{keyAt, keyCount, keys};
 
 // What may not stand twice: the arguments, and where blocks start.
-enum Keys {
+pub enum Keys {
     Args,
     Starts,
 }
@@ -48,10 +47,20 @@ fn key_new(f: &[u8], k: Keys, i: u32) -> bool
     true
 }
 
-// No key of the first n stands twice.
-fn keys_distinct(f: &[u8], k: Keys, n: u32) -> bool
-    ensures { λ r. ⌜ r ≡ distinct (map (keyAt (now (f .entry)) k) (range 0 n)) ⌝ }
+fn key_count(f: &[u8], k: Keys) -> u32
+    ensures { λ r. ⌜ r ≡ keyCount (now (f .entry)) k ⌝ }
 {
+    match k {
+        Keys::Args => size_of(f, ARGS),
+        Keys::Starts => size_of(f, BLOCKS),
+    }
+}
+
+// No key stands twice.
+pub fn keys_distinct(f: &[u8], k: Keys) -> bool
+    ensures { λ r. ⌜ r ≡ distinct (keys (now (f .entry)) k) ⌝ }
+{
+    let n = key_count(f, k);
     let mut i = 0;
     while i < n {
         if !key_new(f, k, i) {
@@ -60,18 +69,6 @@ fn keys_distinct(f: &[u8], k: Keys, n: u32) -> bool
         i += 1;
     }
     true
-}
-
-pub fn args_distinct(f: &[u8]) -> bool
-    ensures { λ r. ⌜ r ≡ distinct (argRegs (now (f .entry))) ⌝ }
-{
-    keys_distinct(f, Keys::Args, size_of(f, ARGS))
-}
-
-pub fn starts_distinct(f: &[u8]) -> bool
-    ensures { λ r. ⌜ r ≡ distinct (starts (now (f .entry))) ⌝ }
-{
-    keys_distinct(f, Keys::Starts, size_of(f, BLOCKS))
 }
 
 pub fn args_spare_rsp(f: &[u8]) -> bool

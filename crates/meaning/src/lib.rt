@@ -1,7 +1,4 @@
 // Check 6: bits, registers, args, block starts, names and definitions.
 pub mod distinct;
 pub mod meaning;
-pub mod once;
 pub mod registers_named;
-pub mod slots;
-pub mod value;

@@ -1,10 +1,10 @@
 // Check 6: what a well-formed file says has a meaning.
-use crate::distinct::args_distinct;
+use crate::distinct::Keys;
 use crate::distinct::args_spare_rsp;
+use crate::distinct::keys_distinct;
 use crate::distinct::names_rise;
-use crate::distinct::starts_distinct;
 use crate::registers_named::registers_named;
-use crate::slots::defined_once;
+use defined::slots::defined_once;
 use records::contents::STATEMENTS;
 use records::contents::offset_of;
 use records::contents::size_of;
@@ -91,13 +91,13 @@ fn rest_sound(e: Edition, f: &[u8]) -> bool
     if !registers_named(f) {
         return false;
     }
-    if !args_distinct(f) {
+    if !keys_distinct(f, Keys::Args) {
         return false;
     }
     if !args_spare_rsp(f) {
         return false;
     }
-    if !starts_distinct(f) {
+    if !keys_distinct(f, Keys::Starts) {
         return false;
     }
     if !names_rise(f) {

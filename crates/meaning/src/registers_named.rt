@@ -1,11 +1,11 @@
 // Every register that the file names is one of the sixteen.
-use crate::value::Defined;
-use crate::value::REGISTERS;
-use crate::value::assigned_by;
-use crate::value::item_value;
-use crate::value::next_item;
-use crate::value::phi_value;
-use crate::value::returned_by;
+use defined::value::Defined;
+use defined::value::REGISTERS;
+use defined::value::assigned_by;
+use defined::value::item_value;
+use defined::value::next_item;
+use defined::value::phi_value;
+use defined::value::returned_by;
 use records::contents::ARGS;
 use records::contents::EXPRESSIONS;
 use records::contents::PHIS;
@@ -26,8 +26,8 @@ ghost use Rattle.definition.specs.Contents.{size};
 ghost use Rattle.definition.specs.Owners.{firstItem};
 ghost use Rattle.definition.specs.Shape.{owned};
 ghost use Rattle.definition.specs.Meaning.{isRegister, callReturns, itemValues, strict, loose, useRegister, registers};
-ghost use Rattle.meaning.specs.Defined.{listOf, named, itemValue};
-ghost use Rattle.meaning.specs.Choice.{recordNamed};
+ghost use Rattle.defined.specs.Defined.{listOf, itemValue};
+ghost use Rattle.meaning.specs.Choice.{named, recordNamed};
 
 fn is_register(r: u32) -> bool
     ensures { λ t. ⌜ t ≡ isRegister r ⌝ }

@@ -21,7 +21,7 @@ use Rattle.definition.specs.Meaning.{phiValue, assigned, callReturns}
 use Rattle.definition.specs.Read.{marked}
 use Rattle.definition.proofs.Bools.{by-cond, both-true}
 use Rattle.definition.proofs.ListLaws.{Each, end, _▸_, each-append}
-use Rattle.meaning.specs.Defined.{itemValue}
+use Rattle.defined.specs.Defined.{itemValue}
 use Rattle.values.specs.Keys.{argKey, phiKey, inputKey, stmtKey, itemKey, exprKey, placesOf, keyed}
 use Rattle.values.proofs.Placed.{at-arg, at-phi, at-input, at-stmt, at-item, at-expr, keyed-length, arg-here, phi-here, input-here, stmt-here, item-here, expr-here}
 use Rattle.reads.specs.Uses.{useValue}

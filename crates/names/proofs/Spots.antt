@@ -20,7 +20,7 @@ use Rattle.definition.specs.Inline.{live}
 use Rattle.definition.specs.Names.{phiKeys, blockKeys}
 use Rattle.definition.proofs.Bools.{by-test}
 use Rattle.records.proofs.Ranges.{gather-map, map-gather, gather-only, shift}
-use Rattle.meaning.specs.Defined.{itemValue}
+use Rattle.defined.specs.Defined.{itemValue}
 use Rattle.values.specs.Keys.{placesOf}
 use Rattle.reads.specs.Uses.{stmtUses, useValue}
 use Rattle.reads.proofs.Trees.{uses-are}

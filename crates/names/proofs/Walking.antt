@@ -11,10 +11,10 @@ use Rattle.definition.specs.Owners.{exprItems, valueItems, phiInputs, firstInpu
 use Rattle.definition.specs.Values.{Value, value}
 use Rattle.definition.specs.Meaning.{phiValue, assigned, callReturns}
 use Rattle.definition.specs.Read.{marked}
-use Rattle.meaning.specs.declared.value.Value.{Value as Value′}
-use Rattle.meaning.specs.declared.value.Defined.{Defined}
-use Rattle.meaning.specs.declared.value.Defined.the-variants.{Nothing, One}
-use Rattle.meaning.specs.Defined.{valueOf, listOf, itemValue}
+use Rattle.defined.specs.declared.value.Value.{Value as Value′}
+use Rattle.defined.specs.declared.value.Defined.{Defined}
+use Rattle.defined.specs.declared.value.Defined.the-variants.{Nothing, One}
+use Rattle.defined.specs.Defined.{valueOf, listOf, itemValue}
 use Rattle.values.specs.declared.places.Places.{Places}
 use Rattle.values.specs.Keys.{placesOf}
 use Rattle.reads.specs.Uses.{useValue}

@@ -13,7 +13,7 @@ use Rattle.definition.specs.Owners.{stmtKind, exprItems, valueItems, blockPhis,
 use Rattle.definition.specs.Values.{Value, value, RSP}
 use Rattle.definition.specs.Meaning.{phiValue, assigned, callReturns}
 use Rattle.definition.specs.Read.{marked}
-use Rattle.meaning.specs.Defined.{itemValue}
+use Rattle.defined.specs.Defined.{itemValue}
 use Rattle.values.specs.Keys.{placesOf}
 use Rattle.values.specs.Tables.{at}
 use Rattle.reads.specs.Uses.{stmtUses, useValue}

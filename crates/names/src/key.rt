@@ -1,13 +1,13 @@
 // One value named: its entry in the table of values, that of its class, and the next local's number.
-use meaning::value::RSP;
-use meaning::value::Value;
+use defined::value::RSP;
+use defined::value::Value;
 use values::read::at_u32;
 use values::read::put_u32;
 ghost use mathlib.Core.Path.{_≡_};
 ghost use mathlib.Core.Bool.{_&&_};
 ghost use lib.Dec.{eqb};
 ghost use lib.ListN.{set};
-ghost use Rattle.meaning.specs.Defined.{valueOf};
+ghost use Rattle.defined.specs.Defined.{valueOf};
 ghost use Rattle.names.specs.Walk.{spot, known, state, met, named};
 
 // A code has 32 bits; no function has so many locals.

@@ -1,9 +1,9 @@
 // Live phis with their inputs, in order.
 use crate::key::name_key;
 use crate::position::Walk;
-use meaning::value::RSP;
-use meaning::value::Value;
-use meaning::value::phi_value;
+use defined::value::RSP;
+use defined::value::Value;
+use defined::value::phi_value;
 use records::contents::input_at;
 use records::contents::phi_word;
 use records::owners::phi_inputs;

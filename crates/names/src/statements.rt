@@ -1,12 +1,12 @@
 // What live statements define and read, in order.
 use crate::key::name_key;
 use crate::position::Walk;
-use meaning::value::Defined;
-use meaning::value::Value;
-use meaning::value::assigned_by;
-use meaning::value::item_value;
-use meaning::value::next_item;
-use meaning::value::returned_by;
+use defined::value::Defined;
+use defined::value::Value;
+use defined::value::assigned_by;
+use defined::value::item_value;
+use defined::value::next_item;
+use defined::value::returned_by;
 use records::contents::expr_word;
 use records::owners::expr_items;
 use records::owners::is_dead;
@@ -20,7 +20,7 @@ ghost use Rattle.definition.specs.Edition.{statements};
 ghost use Rattle.definition.specs.Lists.{gather, range};
 ghost use Rattle.definition.specs.Contents.{size};
 ghost use Rattle.definition.specs.Owners.{firstItem};
-ghost use Rattle.meaning.specs.Defined.{listOf};
+ghost use Rattle.defined.specs.Defined.{listOf};
 ghost use Rattle.values.specs.Keys.{placesOf};
 ghost use Rattle.values.specs.Tables.{at};
 ghost use Rattle.names.specs.Walk.{spot, known, state, walked, fieldSpots, itemSpot, useSpot, stmtSpots};

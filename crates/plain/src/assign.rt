@@ -1,9 +1,9 @@
 // The line of an Assign.
 use crate::parts::number_of;
 use crate::parts::put_becomes;
+use defined::value::RSP;
 use lowering::line::end_stmt;
 use meaning::meaning::bits_of;
-use meaning::value::RSP;
 use offsets::address::stack_off;
 use records::contents::EXPRESSIONS;
 use records::contents::expr_word;

@@ -1,6 +1,6 @@
 // Which variables an Other sets that somebody reads.
 use crate::parts::number_of;
-use meaning::value::RSP;
+use defined::value::RSP;
 use reads::counts::is_read;
 use records::contents::item_word;
 use records::owners::expr_items;

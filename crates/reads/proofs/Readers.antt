@@ -21,7 +21,7 @@ use Rattle.definition.specs.Read.{allTrees, kindAt, marked, read}
 use Rattle.definition.specs.Inline.{reads}
 use Rattle.definition.proofs.Bools.{by-test, is-false}
 use Rattle.definition.proofs.ListLaws.{any-count, any-none}
-use Rattle.meaning.proofs.Ranges.{count-gather}
+use Rattle.defined.proofs.Ranges.{count-gather}
 use Rattle.records.proofs.Below.{sum-turn, sum-le}
 use Rattle.values.specs.Keys.{placesOf}
 use Rattle.values.specs.Tables.{numbered, table}

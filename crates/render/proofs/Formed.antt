@@ -31,7 +31,7 @@ use Rattle.ssa.specs.declared.parts.Text.{Text}
 use Rattle.ssa.specs.Node.{useRecord, nodeRecord, nodeTag}
 use Rattle.ssa.specs.View.{viewNode}
 use Rattle.ssa.proofs.Views.{node-view}
-use Rattle.meaning.specs.declared.value.Value.{Value as ValueS}
+use Rattle.defined.specs.declared.value.Value.{Value as ValueS}
 use Rattle.render.specs.declared.form.Leaf.the-variants.{Number, Address, Global, Slot, Opaque}
 use Rattle.render.specs.declared.form.Form.{Form}
 use Rattle.render.specs.declared.form.Form.the-variants.{Leaf, Use, Bin, Un, Through}

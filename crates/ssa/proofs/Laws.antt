@@ -9,8 +9,8 @@ use Rattle.definition.specs.Contents.{phiWord, exprWord, exprLong}
 use Rattle.definition.specs.Owners.{phiInputs}
 use Rattle.definition.specs.Values.{Value as DValue}
 use Rattle.definition.specs.Meaning.{phiValue}
-use Rattle.meaning.specs.declared.value.Value.{Value}
-use Rattle.meaning.specs.Defined.{valueOf}
+use Rattle.defined.specs.declared.value.Value.{Value}
+use Rattle.defined.specs.Defined.{valueOf}
 use Rattle.ssa.specs.Block.{phiRecord}
 use Rattle.ssa.specs.Node.{textRecord, useRecord, binRecord, unRecord, loadRecord, nodeRecord}
 use Rattle.ssa.specs.declared.parts.Text.{Text}

@@ -5,7 +5,7 @@ use Prim.Native.Nat.{ℕ}
 use lib.Dec.{eqb}
 use Rattle.definition.specs.Codes.{tConst, tUse, tBin, tUn, tLoad, tOpaque}
 use Rattle.definition.specs.Contents.{exprWord, exprLong}
-use Rattle.meaning.specs.declared.value.Value.{Value}
+use Rattle.defined.specs.declared.value.Value.{Value}
 use Rattle.ssa.specs.declared.parts.Text.{Text}
 use Rattle.ssa.specs.declared.node.Bin.{Bin as BinS}
 use Rattle.ssa.specs.declared.node.Un.{Un as UnS}

@@ -1,7 +1,7 @@
 // Phis and blocks, with the numbers of their parts: owners take their parts in order, so a caller carries the first of each along.
 use crate::parts::Destination;
-use meaning::value::Value;
-use meaning::value::phi_value;
+use defined::value::Value;
+use defined::value::phi_value;
 use records::contents::block_long;
 use records::contents::block_word;
 use records::contents::phi_word;

@@ -1,6 +1,6 @@
 // An expression node, by its tag. Children are numbers of nodes.
 use crate::parts::Text;
-use meaning::value::Value;
+use defined::value::Value;
 use records::contents::expr_long;
 use records::contents::expr_word;
 ghost use mathlib.Core.Path.{_≡_};

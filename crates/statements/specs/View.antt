@@ -8,7 +8,7 @@ use Rattle.definition.specs.Values.{Value as DValue, value}
 use Rattle.definition.specs.Ssa.{Expr, Kind as DKind, Stmt as DStmt}
 use Rattle.definition.specs.Ssa.Kind.{Assign as DAssign, Store as DStore, Call as DCall, Branch as DBranch, Flags as DFlags, Return as DReturn, Other as DOther}
 use Rattle.definition.specs.Read.{treeAt}
-use Rattle.meaning.specs.Defined.{valueOf}
+use Rattle.defined.specs.Defined.{valueOf}
 use Rattle.ssa.specs.View.{option, viewText, viewDestination}
 use Rattle.statements.specs.Statement.{markOf}
 use Rattle.statements.specs.declared.items.Items.{Items}

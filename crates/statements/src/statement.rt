@@ -2,7 +2,7 @@
 use crate::items::Items;
 use crate::items::expr_run;
 use crate::items::value_run;
-use meaning::value::Value;
+use defined::value::Value;
 use records::contents::stmt_long;
 use records::contents::stmt_word;
 use records::owners::ASSIGN;

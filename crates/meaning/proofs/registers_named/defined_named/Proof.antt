@@ -1,6 +1,6 @@
 use borrow.Author.Needs.{needs}
-use Rattle.meaning.specs.Defined.{named}
-use Rattle.meaning.proofs.Tested.{none-all, one-all}
+use Rattle.meaning.specs.Choice.{named}
+use Rattle.defined.proofs.Tested.{none-all, one-all}
 use Rattle.meaning.proofs.registers_named.defined_named.Statement.{statement}
 use Rattle.meaning.proofs.registers_named.defined_named.Tie as tie
 

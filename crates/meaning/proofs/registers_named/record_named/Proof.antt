@@ -1,8 +1,7 @@
 use mathlib.Core.Path.{ap, _∙_}
 use Rattle.definition.specs.Lists.{all}
 use Rattle.definition.specs.Meaning.{isRegister}
-use Rattle.meaning.specs.Defined.{named}
-use Rattle.meaning.specs.Choice.{recordNamed}
+use Rattle.meaning.specs.Choice.{named, recordNamed}
 use Rattle.meaning.proofs.Choice.{of-kind}
 use borrow.Author.Needs.{needs}
 use Rattle.meaning.proofs.registers_named.record_named.Statement.{statement}

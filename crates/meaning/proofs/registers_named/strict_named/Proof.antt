@@ -1,7 +1,7 @@
-use Rattle.meaning.specs.Defined.{named}
+use Rattle.meaning.specs.Choice.{named}
 use Rattle.meaning.proofs.Choice.{all-read}
 use Rattle.meaning.proofs.RegistersNamed.{phis-named, assigns-named}
-use Rattle.meaning.proofs.Tested.{strict-stop, strict-go}
+use Rattle.defined.proofs.Tested.{strict-stop, strict-go}
 use borrow.Author.Needs.{needs}
 use Rattle.meaning.proofs.registers_named.strict_named.Statement.{statement}
 use Rattle.meaning.proofs.registers_named.strict_named.Tie as tie

@@ -2,7 +2,7 @@ use Rattle.names.proofs.Reading.{uses-run}
 use Rattle.names.proofs.Walking.{stmt-dead, stmt-live}
 use Rattle.names.specs.Walk.{walked}
 use Rattle.values.specs.declared.places.Places.{Places}
-use Rattle.meaning.proofs.Values.{exprs-small, items-small}
+use Rattle.defined.proofs.Values.{exprs-small, items-small}
 use Rattle.records.proofs.Items.{size-small}
 use Rattle.definition.specs.Edition.{statements}
 use mathlib.Core.Path.{ap, _∙_}

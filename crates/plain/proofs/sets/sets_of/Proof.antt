@@ -1,5 +1,5 @@
 use Rattle.plain.proofs.Searching.{items-low, sets-are}
-use Rattle.meaning.proofs.Values.{exprs-small, items-small}
+use Rattle.defined.proofs.Values.{exprs-small, items-small}
 use native.Mathlib.Omega.{arith}
 use borrow.Author.Needs.{needs}
 use Rattle.plain.proofs.sets.sets_of.Statement.{statement}

@@ -1,0 +1,13 @@
+use borrow.Author.Needs.{needs}
+use Rattle.defined.proofs.Bits.{mask-is}
+use Rattle.defined.proofs.slots.mask_of.Statement.{statement}
+use Rattle.defined.proofs.slots.mask_of.Tie as tie
+
+shl-result : tie.Need-shl-result
+shl-result c = search needs
+
+returns : tie.Need-returns
+returns c = mask-is _
+
+pub mask-of-spec : {M : Type 1} → statement M
+mask-of-spec = tie.close (tie.spec shl-result returns)

@@ -1,0 +1,16 @@
+use borrow.Author.Needs.{needs}
+use Rattle.defined.proofs.Values.{item-read}
+use Rattle.defined.proofs.value.item_value.Statement.{statement}
+use Rattle.defined.proofs.value.item_value.Tie as tie
+
+item-word-requires : tie.Need-item-word-requires
+item-word-requires c κs = search needs
+
+item-word-requires-2 : tie.Need-item-word-requires-2
+item-word-requires-2 c κs = search needs
+
+returns : tie.Need-returns
+returns c = item-read _ _ _ _ (c .before .item-word .ensures) (c .item-word2 .ensures)
+
+pub item-value-spec : {M : Type 1} → statement M
+item-value-spec = tie.close (tie.spec item-word-requires item-word-requires-2 returns)
