@@ -2,19 +2,22 @@
 -- word, and what stands behind the first are the range with the word replaced.
 use mathlib.Core.Path.{_≡_, refl, sym, ap, ap₂, _∙_}
 use mathlib.Core.Bool.{Bool, true, false, cond, false≢true}
+use mathlib.Core.Option.{Option, none, some}
 use mathlib.Core.List.{List, [], _∷_, _++_, append-assoc}
 use Prim.Native.Nat.{ℕ, zero, suc, _+_, _-_, _≤_, _<_}
 use native.Mathlib.Omega.{arith}
 use borrow.Author.Tests.{eq-eqb, ne-eqb}
+use denote.Enum.Declared.{tagOf}
+use types.Run.{OneOf, miss}
 use lib.Dec.{eqb}
 use lib.ListN.{length, getD, take, drop}
 use lib.Seq.{drop-cons}
 use Rattle.definition.specs.Words.{part}
 use Rattle.definition.specs.Texts.{begins, contains, replace}
-use Rattle.definition.specs.Lists.{count, any}
+use Rattle.definition.specs.Lists.{count, any, has}
 use Rattle.definition.specs.Tokens.{tok}
-use Rattle.definition.specs.Negate.{Flip, flipIn}
-use Rattle.definition.proofs.Bools.{by-test}
+use Rattle.definition.specs.Negate.{Flip, flips, compares, flipIn}
+use Rattle.definition.proofs.Bools.{by-test, cond-some}
 use Rattle.definition.proofs.ListLaws.{bit, bit-le, count-cons}
 use Rattle.definition.proofs.TextLaws.{begins-length}
 use Rattle.room.specs.Room.{Room, emit, emitAll, seen}
@@ -22,7 +25,11 @@ use Rattle.room.proofs.Laws.{next, done, joined}
 use Rattle.sheet.specs.Ranges.{least, between}
 use Rattle.sheet.proofs.Reading.{least-le, length-between}
 use Rattle.clips.proofs.Ranges.{drop-between}
+use Rattle.comparisons.specs.declared.signs.Sign.{Sign}
+use Rattle.comparisons.specs.declared.signs.Sign.the-variants.{Equal, Unequal, Less, NotLess, Greater, NotGreater, Nothing}
 use Rattle.comparisons.specs.Looks.{alike, placeOf, Stands}
+use Rattle.comparisons.specs.Signs.{nth, flipOf, firstIn}
+use Rattle.comparisons.proofs.signs.Sign.{the-type}
 
 -- ---- byte by byte
 pub tally-same : (a b : ℕ) → a ≡ b → _≡_ {A = ℕ} 1 (alike a b)
@@ -158,32 +165,67 @@ module _ (t : List ℕ) (from to : ℕ) where
         ∙ joined r₀ 6 x v (tok 6 y ∷ []) refl ∙ joined r₀ 6 (x ++ v) y [] refl ∙ ap (λ (l : List ℕ). seen (emitAll r₀ (tok 6 l ∷ []))) q
 
 -- ---- one sign after another
+abbrev flipped : Option Flip → List ℕ → List ℕ
+flipped none s = s
+flipped (some p) s = replace (p .from) (p .to) s
+
 module _ (s : List ℕ) where
-  pub compares-hit : (p : Flip) (ps : List Flip) → contains (p .from) s ≡ true → true ≡ any (λ q. contains (q .from) s) (p ∷ ps)
-  unfolding any
-  compares-hit p ps e = rw e
+  pub first-hit : (p : Flip) (ps : List Flip) → contains (p .from) s ≡ true → some p ≡ firstIn (p ∷ ps) s
+  unfolding firstIn
+  first-hit p ps e = rw e
 
-  pub compares-skip : (b : Bool) (p : Flip) (ps : List Flip) → contains (p .from) s ≡ false → b ≡ any (λ q. contains (q .from) s) ps
-      → b ≡ any (λ q. contains (q .from) s) (p ∷ ps)
-  unfolding any
-  compares-skip b p ps e h = rw e h
+  pub first-skip : (x : Option Flip) (p : Flip) (ps : List Flip) → contains (p .from) s ≡ false → x ≡ firstIn ps s → x ≡ firstIn (p ∷ ps) s
+  unfolding firstIn
+  first-skip x p ps e h = rw e h
 
-  pub compares-last : (b : Bool) (p : Flip) → b ≡ contains (p .from) s → b ≡ any (λ q. contains (q .from) s) (p ∷ [])
-  unfolding any
-  compares-last true p e = rw (← e)
-  compares-last false p e = rw (← e)
+  pub first-none : none ≡ firstIn [] s
+  unfolding firstIn
+  first-none = refl
 
-  pub flip-hit : (p : Flip) (ps : List Flip) → contains (p .from) s ≡ true → replace (p .from) (p .to) s ≡ flipIn (p ∷ ps) s
-  unfolding flipIn
-  flip-hit p ps e = rw e
+  first-has : (ps : List Flip) → has (firstIn ps s) ≡ any (λ q. contains (q .from) s) ps
+  unfolding firstIn any has
+  first-has [] = refl
+  first-has (p ∷ ps) = by-test (contains (p .from) s) (λ e. rw e) (λ e. rw e (first-has ps))
 
-  pub flip-skip : (x : List ℕ) (p : Flip) (ps : List Flip) → contains (p .from) s ≡ false → x ≡ flipIn ps s → x ≡ flipIn (p ∷ ps) s
-  unfolding flipIn
-  flip-skip x p ps e h = rw e h
+  first-inside : (ps : List Flip) (p : Flip) → firstIn ps s ≡ some p → contains (p .from) s ≡ true
+  unfolding firstIn
+  first-inside [] p h = absurd (let z : _≡_ {A = ℕ} 0 1 = cc in omega arith)
+  first-inside (q ∷ ps) p h = cond-some (λ z. contains (z .from) s ≡ true) (contains (q .from) s) (λ e. e) (first-inside ps p) h
 
-  pub flip-none : s ≡ flipIn [] s
-  unfolding flipIn
-  flip-none = refl
+  first-flips : (ps : List Flip) → flipped (firstIn ps s) s ≡ flipIn ps s
+  unfolding firstIn flipIn
+  first-flips [] = refl
+  first-flips (p ∷ ps) = by-test (contains (p .from) s) (λ e. rw e) (λ e. rw e (first-flips ps))
+
+  pub sign-compares : (r : Sign) → flipOf r ≡ firstIn flips s → has (flipOf r) ≡ compares s
+  unfolding compares
+  sign-compares r first = rw first (first-has flips)
+
+  -- the first sign is k: the text contains it, and it is flipped
+  module _ (r k : Sign) (first : flipOf r ≡ firstIn flips s) (is : r ≡ k) where
+    pub sign-inside : (p : Flip) → flipOf k ≡ some p → contains (p .from) s ≡ true
+    sign-inside p e = first-inside flips p (sym first ∙ ap flipOf is ∙ e)
+
+    pub sign-flips : flipped (flipOf k) s ≡ flipIn flips s
+    sign-flips = rw (← is, first) (first-flips flips)
+
+pub sign-none : (r : Sign) → r ≡ Nothing → false ≡ has (flipOf r)
+unfolding flipOf has
+sign-none r e = rw e
+
+-- the numbers of the variants that are signs
+abbrev signs : List ℕ
+signs = 0 ∷ 1 ∷ 2 ∷ 3 ∷ 4 ∷ 5 ∷ []
+
+pub sign-some : (r : Sign) → OneOf signs (tagOf the-type r) → true ≡ has (flipOf r)
+unfolding flipOf nth flips has
+sign-some Equal h = refl
+sign-some Unequal h = refl
+sign-some Less h = refl
+sign-some NotLess h = refl
+sign-some Greater h = refl
+sign-some NotGreater h = refl
+sign-some Nothing h = absurd (miss signs 6 tt h)
 
 pub piece-is : (r r₀ : Room) (x y : List ℕ) → seen r ≡ seen (emitAll r₀ (tok 6 x ∷ [])) → x ≡ y → seen r ≡ seen (emitAll r₀ (tok 6 y ∷ []))
 piece-is r r₀ x y h e = rw (← e) h

@@ -5,11 +5,11 @@ use mathlib.Core.Bool.{Bool, true, cond, _&&_}
 use mathlib.Core.List.{List, [], _∷_}
 use Prim.Native.Nat.{ℕ, suc, _+_, _≤_, _<_}
 use lib.Dec.{eqb}
-use lib.ListN.{length, drop}
+use lib.ListN.{length}
 use Rattle.definition.specs.Texts.{begins, contains}
 use Rattle.definition.specs.Lists.{count}
 use Rattle.definition.specs.Tokens.{Token}
-use Rattle.definition.specs.Negate.{Flip, flips, compares}
+use Rattle.definition.specs.Negate.{compares}
 use Rattle.sheet.specs.Ranges.{between}
 use Rattle.clips.specs.declared.clip.Clip.{Clip}
 use Rattle.clips.specs.Clip.{clipFrom, clipTo}
@@ -28,10 +28,6 @@ placeOf w (b ∷ s) = cond (begins w (b ∷ s)) 0 (suc (placeOf w s))
 pub record Stands (w t : List ℕ) (from to : ℕ) : Type 0 where
   pub some : 0 < length w
   pub inside : contains w (between t from to) ≡ true
-
--- the comparisons behind the first three
-unfoldable pub others : List Flip
-others = drop 3 flips
 
 -- the parentheses behind a token, of those before it: only a Punct's count
 unfoldable pub opened : ℕ → Token → ℕ

@@ -15,7 +15,8 @@ ghost use Rattle.definition.specs.Tokens.{tok};
 ghost use Rattle.definition.specs.Negate.{flips, flipIn, compares as comparesIn};
 ghost use Rattle.room.specs.Room.{roomOf, emitAll, seen};
 ghost use Rattle.sheet.specs.Ranges.{between};
-ghost use Rattle.comparisons.specs.Looks.{alike, placeOf, Stands, others};
+ghost use Rattle.comparisons.specs.Looks.{alike, placeOf, Stands};
+ghost use Rattle.comparisons.specs.Signs.{flipOf, firstIn};
 
 const PUNCT: u32 = 6;
 
@@ -43,26 +44,51 @@ pub fn count_between(source: &[u8], from: usize, to: usize, b: u8) -> usize
     n
 }
 
+// A sign that compares, or none of them.
+pub enum Sign {
+    Equal,
+    Unequal,
+    Less,
+    NotLess,
+    Greater,
+    NotGreater,
+    Nothing,
+}
+
+// The first of the signs, in the definition's order, that the range contains.
+fn first_sign(text: &[u8], from: usize, to: usize) -> Sign
+    ensures { λ r. ⌜ flipOf r ≡ firstIn flips (between (now (text .entry)) from to) ⌝ }
+{
+    if contains_between(text, from, to, b" == ") {
+        return Sign::Equal;
+    }
+    if contains_between(text, from, to, b" != ") {
+        return Sign::Unequal;
+    }
+    if contains_between(text, from, to, b" < ") {
+        return Sign::Less;
+    }
+    if contains_between(text, from, to, b" >= ") {
+        return Sign::NotLess;
+    }
+    if contains_between(text, from, to, b" > ") {
+        return Sign::Greater;
+    }
+    if contains_between(text, from, to, b" <= ") {
+        return Sign::NotGreater;
+    }
+    Sign::Nothing
+}
+
 // Whether one of the signs is in the range.
 pub fn compares(text: &[u8], from: usize, to: usize) -> bool
     ensures { λ r. ⌜ r ≡ comparesIn (between (now (text .entry)) from to) ⌝ }
 {
-    if contains_between(text, from, to, b" == ") {
-        return true;
+    let s = first_sign(text, from, to);
+    if let Sign::Nothing = s {
+        return false;
     }
-    if contains_between(text, from, to, b" != ") {
-        return true;
-    }
-    if contains_between(text, from, to, b" < ") {
-        return true;
-    }
-    if contains_between(text, from, to, b" >= ") {
-        return true;
-    }
-    if contains_between(text, from, to, b" > ") {
-        return true;
-    }
-    contains_between(text, from, to, b" <= ")
+    true
 }
 
 // Where w first stands in the range, or the range's end.
@@ -102,31 +128,7 @@ fn put_replaced(
     put_between(tokens, text, out, PUNCT, source, behind, to)
 }
 
-// The range as a Punct, with the first of the last three signs that it contains flipped.
-fn put_other(
-    tokens: &mut [u64],
-    text: &mut [u8],
-    out: Out,
-    source: &[u8],
-    from: usize,
-    to: usize,
-) -> Out
-    ensures { λ r. ⌜ seen (roomOf (now (tokens .exit)) (now (text .exit)) r)
-        ≡ seen (emitAll (roomOf (now (tokens .entry)) (now (text .entry)) out) (tok 6 (flipIn others (between (now (source .entry)) from to)) ∷ [])) ⌝ }
-{
-    if contains_between(source, from, to, b" >= ") {
-        return put_replaced(tokens, text, out, source, from, to, b" >= ", b" < ");
-    }
-    if contains_between(source, from, to, b" > ") {
-        return put_replaced(tokens, text, out, source, from, to, b" > ", b" <= ");
-    }
-    if contains_between(source, from, to, b" <= ") {
-        return put_replaced(tokens, text, out, source, from, to, b" <= ", b" > ");
-    }
-    put_between(tokens, text, out, PUNCT, source, from, to)
-}
-
-// The range as a Punct, with the first of all signs that it contains flipped.
+// The range as a Punct, with the first of the signs that it contains flipped.
 pub fn put_opposite(
     tokens: &mut [u64],
     text: &mut [u8],
@@ -138,14 +140,14 @@ pub fn put_opposite(
     ensures { λ r. ⌜ seen (roomOf (now (tokens .exit)) (now (text .exit)) r)
         ≡ seen (emitAll (roomOf (now (tokens .entry)) (now (text .entry)) out) (tok 6 (flipIn flips (between (now (source .entry)) from to)) ∷ [])) ⌝ }
 {
-    if contains_between(source, from, to, b" == ") {
-        return put_replaced(tokens, text, out, source, from, to, b" == ", b" != ");
+    let s = first_sign(source, from, to);
+    match s {
+        Sign::Equal => put_replaced(tokens, text, out, source, from, to, b" == ", b" != "),
+        Sign::Unequal => put_replaced(tokens, text, out, source, from, to, b" != ", b" == "),
+        Sign::Less => put_replaced(tokens, text, out, source, from, to, b" < ", b" >= "),
+        Sign::NotLess => put_replaced(tokens, text, out, source, from, to, b" >= ", b" < "),
+        Sign::Greater => put_replaced(tokens, text, out, source, from, to, b" > ", b" <= "),
+        Sign::NotGreater => put_replaced(tokens, text, out, source, from, to, b" <= ", b" > "),
+        Sign::Nothing => put_between(tokens, text, out, PUNCT, source, from, to),
     }
-    if contains_between(source, from, to, b" != ") {
-        return put_replaced(tokens, text, out, source, from, to, b" != ", b" == ");
-    }
-    if contains_between(source, from, to, b" < ") {
-        return put_replaced(tokens, text, out, source, from, to, b" < ", b" >= ");
-    }
-    put_other(tokens, text, out, source, from, to)
 }

@@ -15,31 +15,34 @@ pub fn least(a: usize, b: usize) -> usize
     b
 }
 
+// The range, as much of it as is in the text.
+fn part(text: &[u8], from: usize, to: usize) -> &[u8]
+    ensures { λ r. ⌜ now r ≡ between (now (text .entry)) from to ⌝ }
+{
+    let e = least(to, text.len());
+    let s = least(from, e);
+    &text[s..e]
+}
+
 // Whether the range is w.
 pub fn is_between(text: &[u8], from: usize, to: usize, w: &[u8]) -> bool
     ensures { λ r. ⌜ r ≡ same (between (now (text .entry)) from to) (now (w .entry)) ⌝ }
 {
-    let e = least(to, text.len());
-    let s = least(from, e);
-    same_text(&text[s..e], w)
+    same_text(part(text, from, to), w)
 }
 
 // Whether the range begins with w.
 pub fn begins_between(text: &[u8], from: usize, to: usize, w: &[u8]) -> bool
     ensures { λ r. ⌜ r ≡ begins (now (w .entry)) (between (now (text .entry)) from to) ⌝ }
 {
-    let e = least(to, text.len());
-    let s = least(from, e);
-    begins_at(w, &text[s..e], 0)
+    begins_at(w, part(text, from, to), 0)
 }
 
 // Whether w stands somewhere in the range.
 pub fn contains_between(text: &[u8], from: usize, to: usize, w: &[u8]) -> bool
     ensures { λ r. ⌜ r ≡ contains (now (w .entry)) (between (now (text .entry)) from to) ⌝ }
 {
-    let e = least(to, text.len());
-    let s = least(from, e);
-    contains_text(w, &text[s..e])
+    contains_text(w, part(text, from, to))
 }
 
 // Whether nothing is in the range.

@@ -1,92 +1,23 @@
-use mathlib.Core.Path.{sym, _∙_}
-use Rattle.definition.specs.Negate.{compares, flips}
-use Rattle.comparisons.proofs.Comparing.{compares-hit, compares-skip, compares-last}
+use Rattle.comparisons.proofs.Comparing.{sign-none, sign-some, sign-compares}
+use mathlib.Core.Path.{_∙_}
 use borrow.Author.Needs.{needs}
 use Rattle.comparisons.proofs.signs.compares.Statement.{statement}
 use Rattle.comparisons.proofs.signs.compares.Tie as tie
 use Rattle.comparisons.proofs.signs.compares.Reads as reads
 use Rattle.comparisons.proofs.signs.compares.Lts as lts
-use Rattle.sheet.proofs.ranges.contains_between.Reads as contains-between-reads
+use Rattle.comparisons.proofs.signs.first_sign.Reads as first-sign-reads
 
-slice-aggregate-contains-between : tie.Need-slice-aggregate-contains-between
-slice-aggregate-contains-between c = search needs
+first-sign-requires : tie.Need-first-sign-requires
+first-sign-requires c κs = search needs
 
-contains-between-requires : tie.Need-contains-between-requires
-contains-between-requires c κs = search needs
+enum-told : tie.Need-enum-told
+enum-told c = search needs
 
 returns : tie.Need-returns
-unfolding compares flips
-returns c = compares-hit _ _ _ (sym (c .before .contains-between .ensures) ∙ c .if1 .taken)
-
-slice-aggregate-contains-between-2 : tie.Need-slice-aggregate-contains-between-2
-slice-aggregate-contains-between-2 c = search needs
-
-contains-between-requires-2 : tie.Need-contains-between-requires-2
-contains-between-requires-2 c κs = search needs
+returns c = sign-none (c .before .before .first-sign .result) (cc) ∙ sign-compares _ _ (c .before .before .first-sign .ensures)
 
 returns-2 : tie.Need-returns-2
-unfolding compares flips
-returns-2 c = compares-skip _ _ _ _ (sym (c .before .before .before .before .contains-between .ensures) ∙ c .before .before .before .if1 .left) (compares-hit _ _ _ (sym (c .before .contains-between2 .ensures) ∙ c .if2 .taken))
-
-slice-aggregate-contains-between-3 : tie.Need-slice-aggregate-contains-between-3
-slice-aggregate-contains-between-3 c = search needs
-
-contains-between-requires-3 : tie.Need-contains-between-requires-3
-contains-between-requires-3 c κs = search needs
-
-returns-3 : tie.Need-returns-3
-unfolding compares flips
-returns-3 c = compares-skip _ _ _ _ (sym (c .before .before .before .before .before .before .before .contains-between .ensures) ∙ c .before .before .before .before .before .before .if1 .left) (compares-skip _ _ _ _ (sym (c .before .before .before .before .contains-between2 .ensures) ∙ c .before .before .before .if2 .left) (compares-hit _ _ _ (sym (c .before .contains-between3 .ensures) ∙ c .if3 .taken)))
-
-slice-aggregate-contains-between-4 : tie.Need-slice-aggregate-contains-between-4
-slice-aggregate-contains-between-4 c = search needs
-
-contains-between-requires-4 : tie.Need-contains-between-requires-4
-contains-between-requires-4 c κs = search needs
-
-returns-4 : tie.Need-returns-4
-unfolding compares flips
-returns-4 c = compares-skip _ _ _ _ (sym (c .before .before .before .before .before .before .before .before .before .before .contains-between .ensures) ∙ c .before .before .before .before .before .before .before .before .before .if1 .left) (compares-skip _ _ _ _ (sym (c .before .before .before .before .before .before .before .contains-between2 .ensures) ∙ c .before .before .before .before .before .before .if2 .left) (compares-skip _ _ _ _ (sym (c .before .before .before .before .contains-between3 .ensures) ∙ c .before .before .before .if3 .left) (compares-hit _ _ _ (sym (c .before .contains-between4 .ensures) ∙ c .if4 .taken))))
-
-slice-aggregate-contains-between-5 : tie.Need-slice-aggregate-contains-between-5
-slice-aggregate-contains-between-5 c = search needs
-
-contains-between-requires-5 : tie.Need-contains-between-requires-5
-contains-between-requires-5 c κs = search needs
-
-returns-5 : tie.Need-returns-5
-unfolding compares flips
-returns-5 c = compares-skip _ _ _ _ (sym (c .before .before .before .before .before .before .before .before .before .before .before .before .before .contains-between .ensures) ∙ c .before .before .before .before .before .before .before .before .before .before .before .before .if1 .left) (compares-skip _ _ _ _ (sym (c .before .before .before .before .before .before .before .before .before .before .contains-between2 .ensures) ∙ c .before .before .before .before .before .before .before .before .before .if2 .left) (compares-skip _ _ _ _ (sym (c .before .before .before .before .before .before .before .contains-between3 .ensures) ∙ c .before .before .before .before .before .before .if3 .left) (compares-skip _ _ _ _ (sym (c .before .before .before .before .contains-between4 .ensures) ∙ c .before .before .before .if4 .left) (compares-hit _ _ _ (sym (c .before .contains-between5 .ensures) ∙ c .if5 .taken)))))
-
-slice-aggregate-contains-between-6 : tie.Need-slice-aggregate-contains-between-6
-slice-aggregate-contains-between-6 c = search needs
-
-contains-between-requires-6 : tie.Need-contains-between-requires-6
-contains-between-requires-6 c κs = search needs
-
-returns-6 : tie.Need-returns-6
-unfolding compares flips
-returns-6 c = compares-skip _ _ _ _ (sym (c .before .before .before .before .before .before .before .before .before .before .before .before .before .before .before .contains-between .ensures) ∙ c .before .before .before .before .before .before .before .before .before .before .before .before .before .before .if1 .left) (compares-skip _ _ _ _ (sym (c .before .before .before .before .before .before .before .before .before .before .before .before .contains-between2 .ensures) ∙ c .before .before .before .before .before .before .before .before .before .before .before .if2 .left) (compares-skip _ _ _ _ (sym (c .before .before .before .before .before .before .before .before .before .contains-between3 .ensures) ∙ c .before .before .before .before .before .before .before .before .if3 .left) (compares-skip _ _ _ _ (sym (c .before .before .before .before .before .before .contains-between4 .ensures) ∙ c .before .before .before .before .before .if4 .left) (compares-skip _ _ _ _ (sym (c .before .before .before .contains-between5 .ensures) ∙ c .before .before .if5 .left) (compares-last _ _ _ (c .contains-between6 .ensures))))))
+returns-2 c = sign-some _ (c .match .keys2) ∙ sign-compares _ _ (c .before .first-sign .ensures)
 
 pub compares-spec : {M : Type 1} → statement M
-compares-spec =
-    tie.close
-    (tie.spec
-    slice-aggregate-contains-between
-    contains-between-requires
-    returns
-    slice-aggregate-contains-between-2
-    contains-between-requires-2
-    returns-2
-    slice-aggregate-contains-between-3
-    contains-between-requires-3
-    returns-3
-    slice-aggregate-contains-between-4
-    contains-between-requires-4
-    returns-4
-    slice-aggregate-contains-between-5
-    contains-between-requires-5
-    returns-5
-    slice-aggregate-contains-between-6
-    contains-between-requires-6
-    returns-6)
+compares-spec = tie.close (tie.spec first-sign-requires enum-told returns returns-2)
