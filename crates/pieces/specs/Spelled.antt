@@ -7,10 +7,10 @@ use Rattle.definition.specs.Numbers.{decimal, num, slot, label, outward}
 use Rattle.definition.specs.Registers.{regName}
 use Rattle.definition.specs.Render.{pointer}
 use Rattle.text.specs.Supplied.{nameText, globalText}
-use Rattle.room.specs.declared.piece.Made.{Made}
-use Rattle.room.specs.declared.piece.Made.the-variants.{Num, Slot, Label, Outward, Pointer, Register, Param, Local}
-use Rattle.room.specs.declared.piece.Piece.{Piece}
-use Rattle.room.specs.declared.piece.Piece.the-variants.{Made as MadeOf, Whole, Part, Name, Global, Flags}
+use Rattle.pieces.specs.declared.piece.Made.{Made}
+use Rattle.pieces.specs.declared.piece.Made.the-variants.{Num, Slot, Label, Outward, Pointer, Register, Param, Local}
+use Rattle.pieces.specs.declared.piece.Piece.{Piece}
+use Rattle.pieces.specs.declared.piece.Piece.the-variants.{Made as MadeOf, Whole, Part, Name, Global, Flags}
 
 abbrev pub made : Made → List ℕ
 made (Num c) = num c

@@ -1,7 +1,7 @@
-use Rattle.room.proofs.Emits.{emit-not, ready-rest, placeable, leaf-emit}
+use Rattle.pieces.proofs.Writing.{emit-not, ready-rest, placeable, leaf-emit}
 use borrow.Author.Needs.{needs}
-use Rattle.room.proofs.piece.put_piece.Statement.{statement}
-use Rattle.room.proofs.piece.put_piece.Tie as tie
+use Rattle.pieces.proofs.piece.put_piece.Statement.{statement}
+use Rattle.pieces.proofs.piece.put_piece.Tie as tie
 
 ready-requires : tie.Need-ready-requires
 ready-requires c κs = search needs

@@ -5,12 +5,8 @@ use Rattle.digits.proofs.Leaves.{no-front, no-end, end-count, both-fit}
 use Prim.Native.Nat.{_+_, _≤_}
 use lib.ListN.{length}
 use borrow.Author.Needs.{needs}
-use Rattle.room.proofs.fronted.part_behind.Statement.{statement}
-use Rattle.room.proofs.fronted.part_behind.Tie as tie
-use Rattle.room.proofs.fronted.part_behind.Reads as reads
-use Rattle.room.proofs.fronted.part_behind.Lts as lts
-use Rattle.digits.proofs.leaf.copy.Reads as copy-reads
-use Rattle.digits.proofs.leaf.copy_part.Reads as copy-part-reads
+use Rattle.pieces.proofs.fronted.part_behind.Statement.{statement}
+use Rattle.pieces.proofs.fronted.part_behind.Tie as tie
 
 returns : tie.Need-returns
 returns c = let a = c .before .before .before .before .args in no-front (a .front .now) (part (a .f .now) (a .at) (a .n)) _ _ refl (c .if1 .taken)

@@ -1,9 +1,5 @@
 // What a piece spells, one writer for all of them, and the one way into the room: the writer is lent only the unwritten rest of the text.
 use crate::fronted::part_behind;
-use crate::out::Out;
-use crate::place::ready;
-use crate::place::stop;
-use crate::place::token;
 use digits::leaf::Wrote;
 use digits::leaf::copy;
 use digits::leaf::copy_part;
@@ -14,14 +10,18 @@ use digits::numbers::num;
 use digits::numbers::outward;
 use digits::numbers::pointer;
 use digits::numbers::slot;
+use room::out::Out;
+use room::place::ready;
+use room::place::stop;
+use room::place::token;
 use text::names::global_name;
 use text::names::name_text;
 use text::registers::reg_name;
 ghost use mathlib.Core.Path.{_≡_};
 ghost use Rattle.definition.specs.Tokens.{tok};
 ghost use Rattle.digits.specs.Leaf.{Leaf};
 ghost use Rattle.room.specs.Room.{roomOf, emit};
-ghost use Rattle.room.specs.Spelled.{made, spelled};
+ghost use Rattle.pieces.specs.Spelled.{made, spelled};
 
 // A register at a width.
 pub struct Named {

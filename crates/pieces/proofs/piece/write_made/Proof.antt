@@ -1,10 +1,10 @@
 use mathlib.Core.Path.{refl}
 use Rattle.definition.specs.Texts.{txt}
-use Rattle.room.specs.Spelled.{made}
-use Rattle.room.proofs.Spelling.{spells, counted-is}
+use Rattle.pieces.specs.Spelled.{made}
+use Rattle.pieces.proofs.Spelling.{spells, counted-is}
 use borrow.Author.Needs.{needs}
-use Rattle.room.proofs.piece.write_made.Statement.{statement}
-use Rattle.room.proofs.piece.write_made.Tie as tie
+use Rattle.pieces.proofs.piece.write_made.Statement.{statement}
+use Rattle.pieces.proofs.piece.write_made.Tie as tie
 
 enum-known-m : tie.Need-enum-known-m
 enum-known-m c = search needs

@@ -1,7 +1,7 @@
 use Rattle.definition.specs.Render.{pointer}
 use borrow.Author.Needs.{needs}
-use Rattle.room.proofs.put.put_pointer.Statement.{statement}
-use Rattle.room.proofs.put.put_pointer.Tie as tie
+use Rattle.pieces.proofs.put.put_pointer.Statement.{statement}
+use Rattle.pieces.proofs.put.put_pointer.Tie as tie
 
 put-made-requires : tie.Need-put-made-requires
 put-made-requires c κs = search needs

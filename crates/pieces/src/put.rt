@@ -1,9 +1,9 @@
 // Pieces into the room. Each function is lent tokens and text; the writer of a text is lent only the unwritten rest.
-use crate::out::Out;
 use crate::piece::Made;
 use crate::piece::Named;
 use crate::piece::Piece;
 use crate::piece::put_piece;
+use room::out::Out;
 ghost use mathlib.Core.Path.{_≡_};
 ghost use mathlib.Core.List.{_++_};
 ghost use Rattle.definition.specs.Texts.{txt};
@@ -11,8 +11,8 @@ ghost use Rattle.definition.specs.Numbers.{decimal, num as numOf, slot as slotO
 ghost use Rattle.definition.specs.Registers.{regName};
 ghost use Rattle.definition.specs.Render.{pointer as pointerOf};
 ghost use Rattle.definition.specs.Tokens.{tok};
 ghost use Rattle.room.specs.Room.{roomOf, emit};
-ghost use Rattle.room.specs.Spelled.{made};
+ghost use Rattle.pieces.specs.Spelled.{made};
 
 // A piece of any kind.
 pub fn put(tokens: &mut [u64], text: &mut [u8], out: Out, kind: u32, bytes: &[u8]) -> Out

@@ -1,9 +1,9 @@
 use mathlib.Core.Path.{refl}
-use Rattle.room.specs.Spelled.{spelled}
-use Rattle.room.proofs.Spelling.{spells}
+use Rattle.pieces.specs.Spelled.{spelled}
+use Rattle.pieces.proofs.Spelling.{spells}
 use borrow.Author.Needs.{needs}
-use Rattle.room.proofs.piece.write.Statement.{statement}
-use Rattle.room.proofs.piece.write.Tie as tie
+use Rattle.pieces.proofs.piece.write.Statement.{statement}
+use Rattle.pieces.proofs.piece.write.Tie as tie
 
 enum-known-p : tie.Need-enum-known-p
 enum-known-p c = search needs

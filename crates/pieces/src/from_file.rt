@@ -1,17 +1,17 @@
 // Pieces whose text stands in the file, or behind a front that does.
-use crate::out::Out;
 use crate::piece::Bytes;
 use crate::piece::Global;
 use crate::piece::Piece;
 use crate::piece::Supplied;
 use crate::piece::put_piece;
+use room::out::Out;
 ghost use mathlib.Core.Path.{_≡_};
 ghost use mathlib.Core.List.{_++_};
 ghost use Rattle.definition.specs.Texts.{txt};
 ghost use Rattle.definition.specs.Tokens.{tok};
 ghost use Rattle.definition.specs.Words.{part};
 ghost use Rattle.text.specs.Supplied.{nameText, globalText};
 ghost use Rattle.room.specs.Room.{roomOf, emit};
 
 // n bytes of the file from `at` on.
 pub fn put_part(
