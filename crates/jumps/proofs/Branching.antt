@@ -20,7 +20,7 @@ use Rattle.definition.specs.Ssa.{Expr, Stmt}
 use Rattle.definition.specs.Ssa.Kind.{Branch}
 use Rattle.definition.specs.Read.{when, treeAt, allTrees, kindAt, marked, stmtAt, blockAt, read}
 use Rattle.definition.specs.Lookup.{order, isNext}
-use Rattle.definition.specs.Tokens.{Line, symbol, address, punct}
+use Rattle.definition.specs.Tokens.{Line, textual, keyword, symbol, address, punct}
 use Rattle.definition.specs.Lower.{gotoTokens, countSet, fallLine, branchIf, tailCall, leave, branchTo, branch, lowerKind}
 use Rattle.definition.specs.Blocks.{lowering}
 use Rattle.records.proofs.Items.{items-few, exprs-fit}
@@ -36,13 +36,14 @@ use Rattle.room.proofs.Laws.{written-none}
 use Rattle.lowering.specs.Lowered.{loweringOf, lowered, hereAt}
 use Rattle.jumps.specs.Given.{BranchAt}
 use Rattle.lowering.specs.Commas.{least}
-use Rattle.jumps.specs.Written.{usesOf, nameOf, stmtLine, toBlock, computedTokens, conditionOf, ifTokens, aimOf, testTokens, fallTo, fallOf, ifLines, nameTokens, callTokens, returnTokens, endTokens, tailBy, tailOf, leaveOf, jumpOf, plainTo, goalOf, plainOf}
+use Rattle.gotos.specs.Written.{usesOf, nameOf, stmtLine, toBlock, computedTokens, nameTokens, returnIf, callTokens, endTokens, returnLine, tailBy, tailOf, leaveOf}
+use Rattle.jumps.specs.Written.{conditionOf, ifTokens, aimOf, testTokens, fallTo, fallOf, ifLines, jumpOf, plainTo, goalOf, plainOf}
 use Rattle.lowering.proofs.Commas.{least-le, take-listed}
 use Rattle.lowering.proofs.Gen.{lowering-returns, lowering-args}
 use Rattle.jumps.proofs.Naming.{name-is}
-use Rattle.jumps.proofs.Using.{uses-are}
-use Rattle.jumps.proofs.Edges.{taken-is}
-use Rattle.jumps.proofs.Ends.{lines-are}
+use Rattle.gotos.proofs.Using.{uses-are}
+use Rattle.gotos.proofs.Edges.{taken-is}
+use Rattle.gotos.proofs.Ends.{lines-are}
 
 -- ---- what a branch gives its parts
 module _ (f : List ℕ) (block i item : ℕ) (at : BranchAt f block i item) where
@@ -87,6 +88,16 @@ module _ (E : Edition) (f : List ℕ) (b i item count : ℕ) (s s₀ : Sheet) (d
       lines-are s s₀ (stmtLine f i (computedTokens E f item (stmtField f i 6))) (plainOf E f b i item count)
       (ap (plainTo E f b i item (stmtField f i 6) (least count (stmtField f i 6))) to) k
 
+-- ---- to a: a block, or out of the function
+module _ (E : Edition) (f : List ℕ) (b i a : ℕ) (xs : List Expr) (d : Bool) (says : d ≡ among a (order (read E f))) (s s₀ : Sheet) where
+  pub jump-block : d ≡ true → seenSheet s ≡ seenSheet (writeAll s₀ (toBlock f b i a)) → seenSheet s ≡ seenSheet (writeAll s₀ (jumpOf E f b i a xs))
+  unfolding jumpOf
+  jump-block h k = rw (← says, h) k
+
+  pub jump-out : d ≡ false → seenSheet s ≡ seenSheet (writeAll s₀ (leaveOf E f i a xs)) → seenSheet s ≡ seenSheet (writeAll s₀ (jumpOf E f b i a xs))
+  unfolding jumpOf
+  jump-out h k = rw (← says, h) k
+
 -- ---- all of it
 module _ (E : Edition) (f : List ℕ) (b i item count : ℕ) (at : BranchAt f b i item) (set : List ℕ) (regs : count ≡ countSet set (read E f .args)) where
   abbrev stmt : Stmt
@@ -121,9 +132,16 @@ module _ (E : Edition) (f : List ℕ) (b i item count : ℕ) (at : BranchAt f b 
   args-are =
       ap (λ (l : List ℕ). take (countSet set l) uses) (lowering-args E f) ∙ ap (λ (c : ℕ). take c uses) (sym regs) ∙ take-uses E f count item (stmtField f i 6)
 
+  -- one line with its `return`, or two
+  tail-by : (a : ℕ) (returns : Bool) (xs : List Expr) → cond returns (stmtLine f i (keyword (txt "return") ∷ textual (txt " ") ∷ (nameTokens E f a xs ++ (punct (txt ";") ∷ []))))
+      (stmtLine f i (nameTokens E f a xs ++ (punct (txt ";") ∷ [])) ++ stmtLine f i (keyword (txt "return") ∷ punct (txt ";") ∷ [])) ≡ tailBy E f i a returns xs
+  unfolding tailBy callTokens returnIf returnLine endTokens stmtLine
+  tail-by a true xs = refl
+  tail-by a false xs = refl
+
   tail-is : (a : ℕ) → tailCall (loweringOf E f) set stmt (nameOf E f a) uses ≡ tailOf E f i a args
-  unfolding tailCall tailOf tailBy returnTokens callTokens nameTokens endTokens stmtLine stmtAt
-  tail-is a = ap₂ (λ (r : Bool) (xs : List Expr). tailBy E f i a r xs) (lowering-returns E f) args-are
+  unfolding tailCall tailOf nameTokens stmtLine stmtAt
+  tail-is a = tail-by a (loweringOf E f .returns) _ ∙ ap₂ (λ (r : Bool) (xs : List Expr). tailBy E f i a r xs) (lowering-returns E f) args-are
 
   leave-is : (a : ℕ) → leave (loweringOf E f) set stmt (nameOf E f a) uses ≡ leaveOf E f i a args
   unfolding leave leaveOf stmtLine stmtAt

@@ -1,10 +1,4 @@
 pub mod Naming
-pub mod Using
-pub mod Gotos
-pub mod Edges
-pub mod Ends
-pub mod Lines
 pub mod Testing
-pub mod Leaving
 pub mod Branching
 pub mod Unique

@@ -8,7 +8,7 @@ use Rattle.definition.specs.Read.{read}
 use Rattle.definition.specs.Lookup.{order, targetName}
 use Rattle.lowering.specs.Lowered.{loweringOf}
 use Rattle.lowering.proofs.Gen.{gen-supplied, lowering-starts}
-use Rattle.jumps.specs.Written.{nameOf}
+use Rattle.gotos.specs.Written.{nameOf}
 
 module _ (E : Edition) (f : List ℕ) where
   pub name-is : (a : ℕ) → targetName (loweringOf E f .starts) (loweringOf E f .gen .supplied) a ≡ nameOf E f a

@@ -27,11 +27,12 @@ use Rattle.lowering.specs.Lowered.{loweringOf, hereAt}
 use Rattle.conditions.specs.declared.operands.Found.{Found}
 use Rattle.conditions.specs.Pairs.{foundTokens, Set}
 use Rattle.conditions.proofs.Pairing.{found-is}
-use Rattle.jumps.specs.Written.{nameOf, stmtLine, conditionOf, ifTokens, aimOf, testTokens, fallTo, fallOf, ifLines}
+use Rattle.gotos.specs.Written.{nameOf, stmtLine}
+use Rattle.jumps.specs.Written.{conditionOf, ifTokens, aimOf, testTokens, fallTo, fallOf, ifLines}
 use Rattle.render.proofs.Opening.{gen-all}
-use Rattle.jumps.proofs.Edges.{taken-is, fall-is}
+use Rattle.gotos.proofs.Edges.{taken-is, fall-is}
 use Rattle.lowering.proofs.Lines.{left-out, not-out}
-use Rattle.jumps.proofs.Ends.{lines-are}
+use Rattle.gotos.proofs.Ends.{lines-are}
 
 -- ---- where it goes
 module _ (f : List ℕ) (b i : ℕ) (x : Block) (is : x ≡ blockRecord f b) where

@@ -1,10 +1,10 @@
 // The lines of a Branch.
 use crate::conditional::conditional;
-use crate::jump::computed;
-use crate::jump::to_block;
-use crate::tail::leave;
 use calls::targets::is_block;
 use conditions::operands::Found;
+use gotos::jump::computed;
+use gotos::jump::to_block;
+use gotos::tail::leave;
 use lowering::list::least_of;
 use records::contents::stmt_long;
 use records::owners::is_dead;
@@ -27,8 +27,9 @@ ghost use Rattle.room.specs.Room.{sheetOf, writeAll, seenSheet};
 ghost use Rattle.render.specs.Told.{Told};
 ghost use Rattle.lowering.specs.Lowered.{lowered, hereAt};
 ghost use Rattle.conditions.specs.Pairs.{Set};
+ghost use Rattle.gotos.specs.Written.{usesOf};
 ghost use Rattle.jumps.specs.Given.{BranchAt};
-ghost use Rattle.jumps.specs.Written.{usesOf, jumpOf, goalOf, plainOf};
+ghost use Rattle.jumps.specs.Written.{jumpOf, goalOf, plainOf};
 
 // Where a plain branch goes, if to an address: to its own target, else where the block goes.
 fn goal(f: &[u8], block: u32, i: u32) -> Destination

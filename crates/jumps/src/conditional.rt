@@ -1,17 +1,17 @@
 // A conditional branch, and the goto to where its block falls.
-use crate::goto::name_line;
-use crate::goto::put_goto_name;
 use conditions::condition::put_condition;
 use conditions::operands::Found;
+use gotos::goto::name_line;
+use gotos::goto::put_goto_name;
 use lowering::kinds::KEYWORD;
 use lowering::kinds::PUNCT;
 use lowering::kinds::SYMBOL;
 use lowering::line::end_stmt;
 use marks::labels::is_next;
+use pieces::put::put;
 use records::contents::stmt_long;
 use records::owners::stmt_field;
 use room::out::Out;
-use room::put::put;
 use ssa::block::block_at;
 use values::places::Places;
 ghost use mathlib.Core.Path.{_≡_};
@@ -22,7 +22,8 @@ ghost use Rattle.definition.specs.Owners.{blockStmts, firstStmt};
 ghost use Rattle.room.specs.Room.{roomOf, emitAll, seen, sheetOf, writeAll, seenSheet};
 ghost use Rattle.render.specs.Told.{Told};
 ghost use Rattle.conditions.specs.Pairs.{Set};
-ghost use Rattle.jumps.specs.Written.{stmtLine, conditionOf, ifTokens, aimOf, testTokens, fallOf, ifLines};
+ghost use Rattle.gotos.specs.Written.{stmtLine};
+ghost use Rattle.jumps.specs.Written.{conditionOf, ifTokens, aimOf, testTokens, fallOf, ifLines};
 
 // Where it goes: the block's taken edge, else its own target, else 0.
 fn aim(f: &[u8], block: u32, i: u32) -> u64

@@ -8,4 +8,3 @@ pub mod Words
 pub mod Proper
 pub mod View
 pub mod Unique
-pub mod Spelling

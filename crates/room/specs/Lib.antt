@@ -2,4 +2,3 @@ pub mod Room
 pub mod Placing
 pub mod Ending
 pub mod Blank
-pub mod Spelled

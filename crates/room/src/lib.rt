@@ -1,8 +1,4 @@
-// What lowering writes: tokens and text as pieces come, and lines as they end. A room that is full stays so.
-pub mod from_file;
-pub mod fronted;
+// What lowering writes: a token for each piece as it comes, and lines as they end. A room that is full stays so.
 pub mod line;
 pub mod out;
-pub mod piece;
 pub mod place;
-pub mod put;

@@ -1,4 +1,4 @@
-use Rattle.jumps.proofs.Leaving.{jump-block, jump-out}
+use Rattle.jumps.proofs.Branching.{jump-block, jump-out}
 use borrow.Author.Needs.{needs}
 use Rattle.jumps.proofs.branch.jump_to.Statement.{statement}
 use Rattle.jumps.proofs.branch.jump_to.Tie as tie
@@ -19,7 +19,7 @@ same-length-3 : tie.Need-same-length-3
 same-length-3 c = search needs
 
 returns : tie.Need-returns
-returns c = λ E s. jump-block E _ _ _ _ _ _ _ _ (c .before .before .before .before .before .before .before .before .before .before .before .is-block .ensures E) (c .before .before .before .before .before .before .before .before .before .before .if1 .taken) (c .before .before .before .before .before .before .to-block .ensures)
+returns c = λ E s. jump-block E _ _ _ _ _ _ (c .before .before .before .before .before .before .before .before .before .before .before .is-block .ensures E) _ _ (c .before .before .before .before .before .before .before .before .before .before .if1 .taken) (c .before .before .before .before .before .before .to-block .ensures)
 
 leave-requires : tie.Need-leave-requires
 leave-requires c κs = search needs
@@ -34,7 +34,7 @@ same-length-6 : tie.Need-same-length-6
 same-length-6 c = search needs
 
 returns-2 : tie.Need-returns-2
-returns-2 c = λ E s. jump-out E _ _ _ _ _ _ _ _ (c .before .before .before .before .before .before .before .before .before .before .before .is-block .ensures E) (c .before .before .before .before .before .before .before .before .before .before .if1 .left) (c .before .before .before .before .before .before .leave .ensures E s)
+returns-2 c = λ E s. jump-out E _ _ _ _ _ _ (c .before .before .before .before .before .before .before .before .before .before .before .is-block .ensures E) _ _ (c .before .before .before .before .before .before .before .before .before .before .if1 .left) (c .before .before .before .before .before .before .leave .ensures E s)
 
 pub jump-to-spec : {M : Type 1} → statement M
 jump-to-spec =

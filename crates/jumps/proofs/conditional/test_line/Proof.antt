@@ -1,4 +1,4 @@
-use Rattle.jumps.proofs.Lines.{stmt-put}
+use Rattle.gotos.proofs.Lines.{stmt-put}
 use borrow.Author.Needs.{needs}
 use Rattle.jumps.proofs.conditional.test_line.Statement.{statement}
 use Rattle.jumps.proofs.conditional.test_line.Tie as tie

@@ -3,8 +3,6 @@ use Rattle.definition.specs.Listing.{hasAddress, addressOf}
 use borrow.Author.Needs.{needs}
 use Rattle.room.proofs.line.address_of.Statement.{statement}
 use Rattle.room.proofs.line.address_of.Tie as tie
-use Rattle.room.proofs.line.address_of.Reads as reads
-use Rattle.room.proofs.line.address_of.Lts as lts
 
 enum-told : tie.Need-enum-told
 enum-told c = search needs

@@ -3,12 +3,6 @@ use native.Mathlib.Omega.{arith}
 use borrow.Author.Needs.{needs}
 use Rattle.room.proofs.line.end_line.Statement.{statement}
 use Rattle.room.proofs.line.end_line.Tie as tie
-use Rattle.room.proofs.line.end_line.Reads as reads
-use Rattle.room.proofs.line.end_line.Lts as lts
-use Rattle.room.proofs.line.address_of.Reads as address-of-reads
-use Rattle.room.proofs.line.has_address.Reads as has-address-reads
-use Rattle.room.proofs.line.write_row.Reads as write-row-reads
-use Rattle.room.proofs.place.stop.Reads as stop-reads
 
 returns : tie.Need-returns
 returns c = end-full _ _ _ _ (c .if1 .taken)

@@ -3,8 +3,6 @@ use Rattle.definition.specs.Listing.{hasAddress, addressOf}
 use borrow.Author.Needs.{needs}
 use Rattle.room.proofs.line.has_address.Statement.{statement}
 use Rattle.room.proofs.line.has_address.Tie as tie
-use Rattle.room.proofs.line.has_address.Reads as reads
-use Rattle.room.proofs.line.has_address.Lts as lts
 
 enum-told : tie.Need-enum-told
 enum-told c = search needs

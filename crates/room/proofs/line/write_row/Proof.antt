@@ -4,8 +4,6 @@ use lib.ListN.{length-set}
 use borrow.Author.Needs.{needs}
 use Rattle.room.proofs.line.write_row.Statement.{statement}
 use Rattle.room.proofs.line.write_row.Tie as tie
-use Rattle.room.proofs.line.write_row.Reads as reads
-use Rattle.room.proofs.line.write_row.Lts as lts
 
 mul-lines : tie.Need-mul-lines
 mul-lines c = search needs

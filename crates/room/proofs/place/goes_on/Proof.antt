@@ -2,9 +2,6 @@ use Rattle.room.proofs.Placing.{goes-first, goes-alike, goes-alone}
 use borrow.Author.Needs.{needs}
 use Rattle.room.proofs.place.goes_on.Statement.{statement}
 use Rattle.room.proofs.place.goes_on.Tie as tie
-use Rattle.room.proofs.place.goes_on.Reads as reads
-use Rattle.room.proofs.place.goes_on.Lts as lts
-use Rattle.room.proofs.place.joins.Reads as joins-reads
 
 returns : tie.Need-returns
 returns c = goes-first _ _ _ (c .if1 .taken)

@@ -2,8 +2,6 @@ use Rattle.room.proofs.Placing.{sound-full, sound-not, sound-last}
 use native.Mathlib.Omega.{arith}
 use Rattle.room.proofs.place.is_sound.Statement.{statement}
 use Rattle.room.proofs.place.is_sound.Tie as tie
-use Rattle.room.proofs.place.is_sound.Reads as reads
-use Rattle.room.proofs.place.is_sound.Lts as lts
 
 returns : tie.Need-returns
 returns c = sound-full _ _ _ (c .if1 .taken)

@@ -1,8 +1,6 @@
 use Rattle.room.proofs.Placing.{joins-punct, joins-else}
 use Rattle.room.proofs.place.joins.Statement.{statement}
 use Rattle.room.proofs.place.joins.Tie as tie
-use Rattle.room.proofs.place.joins.Reads as reads
-use Rattle.room.proofs.place.joins.Lts as lts
 
 returns : tie.Need-returns
 returns c = joins-punct _ (c .if1 .taken)

@@ -3,10 +3,6 @@ use Rattle.room.proofs.Placing.{ready-goes, ready-new, ready-not, sound
 use borrow.Author.Needs.{needs}
 use Rattle.room.proofs.place.ready.Statement.{statement}
 use Rattle.room.proofs.place.ready.Tie as tie
-use Rattle.room.proofs.place.ready.Reads as reads
-use Rattle.room.proofs.place.ready.Lts as lts
-use Rattle.room.proofs.place.goes_on.Reads as goes-on-reads
-use Rattle.room.proofs.place.is_sound.Reads as is-sound-reads
 
 is-sound-requires : tie.Need-is-sound-requires
 is-sound-requires c κs = search needs

@@ -4,9 +4,6 @@ use Rattle.room.proofs.Placing.{slot-before, slot-new, goes-told}
 use borrow.Author.Needs.{needs}
 use Rattle.room.proofs.place.slot_at.Statement.{statement}
 use Rattle.room.proofs.place.slot_at.Tie as tie
-use Rattle.room.proofs.place.slot_at.Reads as reads
-use Rattle.room.proofs.place.slot_at.Lts as lts
-use Rattle.room.proofs.place.goes_on.Reads as goes-on-reads
 
 goes-on-requires : tie.Need-goes-on-requires
 goes-on-requires c κs = search needs

@@ -2,8 +2,6 @@ use Rattle.room.specs.Room.{stopped}
 use mathlib.Core.Path.{refl}
 use Rattle.room.proofs.place.stop.Statement.{statement}
 use Rattle.room.proofs.place.stop.Tie as tie
-use Rattle.room.proofs.place.stop.Reads as reads
-use Rattle.room.proofs.place.stop.Lts as lts
 
 returns : tie.Need-returns
 unfolding stopped

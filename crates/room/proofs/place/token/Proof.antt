@@ -3,10 +3,6 @@ use Rattle.room.proofs.Placing.{token-end, token-none, token-set}
 use borrow.Author.Needs.{needs}
 use Rattle.room.proofs.place.token.Statement.{statement}
 use Rattle.room.proofs.place.token.Tie as tie
-use Rattle.room.proofs.place.token.Reads as reads
-use Rattle.room.proofs.place.token.Lts as lts
-use Rattle.room.proofs.place.slot_at.Reads as slot-at-reads
-use Rattle.room.proofs.place.stop.Reads as stop-reads
 
 enum-known-wrote : tie.Need-enum-known-wrote
 enum-known-wrote c = search needs

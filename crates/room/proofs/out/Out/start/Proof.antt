@@ -2,8 +2,6 @@ use Rattle.room.specs.Blank.{fresh}
 use mathlib.Core.Path.{refl}
 use Rattle.room.proofs.out.Out.start.Statement.{statement}
 use Rattle.room.proofs.out.Out.start.Tie as tie
-use Rattle.room.proofs.out.Out.start.Reads as reads
-use Rattle.room.proofs.out.Out.start.Lts as lts
 
 returns : tie.Need-returns
 unfolding fresh
