@@ -1,14 +1,15 @@
 -- What the loops have written: one token more at each turn, or none where it is empty.
 use mathlib.Core.Path.{_≡_, ap, _∙_}
 use mathlib.Core.Bool.{Bool, true, false}
-use mathlib.Core.List.{List, [], _∷_, _++_, map}
-use Prim.Native.Nat.{ℕ, zero, suc, _+_, _-_, _≤_}
+use mathlib.Core.List.{List, [], _∷_, map}
+use Prim.Native.Nat.{ℕ, suc, _+_, _-_, _≤_}
 use native.Mathlib.Omega.{arith}
 use Rattle.definition.specs.Words.{part}
 use Rattle.definition.specs.Texts.{isEmpty}
 use Rattle.definition.specs.Lists.{range, only}
 use Rattle.definition.specs.Tokens.{Token, tok}
 use Rattle.definition.proofs.ListLaws.{only-append}
+use Rattle.records.proofs.Ranges.{map-snoc}
 use Rattle.room.specs.Room.{Room, emit, emitAll, seen}
 use Rattle.room.proofs.Laws.{next, more, done, pieces-are}
 use Rattle.sheet.specs.Buffers.{kindAt, startAt, endAt, textAt, tokenAt, tokensIn}
@@ -16,14 +17,6 @@ use Rattle.sheet.specs.Ranges.{between, SamePlace}
 use Rattle.clips.specs.declared.clip.Clip.{Clip}
 use Rattle.clips.specs.Clip.{clipFrom, clipTo, clipAt, hasText, texts}
 use Rattle.clips.proofs.Clips.{token-same}
-
--- one place more
-map-snoc : (f : ℕ → Token) (a k : ℕ) → map f (range a (suc k)) ≡ map f (range a k) ++ (f (a + k) ∷ [])
-unfolding range
-map-snoc f a zero = let p : a + 0 ≡ a = omega arith in rw p
-map-snoc f a (suc k) =
-    let p : a + suc k ≡ a + 1 + k = omega arith in
-    rw p (ap (λ (l : List Token). f a ∷ l) (map-snoc f (a + 1) k))
 
 -- ---- one token
 pub put-range : (r₁ r : Room) (k : ℕ) (t : List ℕ) (f e g : ℕ) → g ≡ e - f → r₁ ≡ emit r (tok k (part t f g)) → r₁ ≡ emit r (tok k (between t f e))

@@ -1,15 +1,11 @@
 -- Lists that run over the numbers below n, as tests and sums over these numbers.
 use mathlib.Core.Path.{_≡_, refl, sym, ap, ap₂, _∙_}
 use mathlib.Core.Bool.{Bool, cond, _&&_, and-true, and-assoc}
-use mathlib.Core.List.{List, [], _∷_, _++_, map, map-append}
+use mathlib.Core.List.{List, [], _∷_, _++_, map}
 use Prim.Native.Nat.{ℕ, zero, suc, _+_}
 use Rattle.definition.proofs.ListLaws.{count-append}
-use Rattle.records.proofs.Ranges.{range-last, gather-last}
+use Rattle.records.proofs.Ranges.{gather-last, map-last}
 use Rattle.definition.specs.Lists.{all, count, gather, range, allBelow, sumBelow}
-
-module _ {A : Type 0} (g : ℕ → A) where
-  pub map-last : (n : ℕ) → map g (range 0 (suc n)) ≡ map g (range 0 n) ++ (g n ∷ [])
-  map-last n = ap (map g) (range-last n) ∙ map-append g (range 0 n) (n ∷ [])
 
 module _ {A : Type 0} (p : A → Bool) where
   pub all-append : (xs ys : List A) → all p (xs ++ ys) ≡ (all p xs && all p ys)

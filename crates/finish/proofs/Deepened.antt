@@ -1,17 +1,10 @@
 -- A row's indent is its lowered line's and the steps between: their sum is the row's own number, which is small.
 use mathlib.Core.Path.{_≡_, sym, _∙_}
-use mathlib.Core.List.{List}
-use Prim.Native.Nat.{ℕ, _+_, _*_, _-_, _/_, _≤_, _<_}
+use Prim.Native.Nat.{ℕ, _+_, _-_, _≤_}
 use native.Mathlib.Omega.{arith}
-use lib.ListN.{length}
-use Rattle.sheet.specs.Buffers.{numberAt}
-use Rattle.sheet.proofs.Reading.{number-out}
 use Rattle.outline.specs.Rows.{indentOf}
 use Rattle.indents.specs.Deeper.{deeperBy}
 use Rattle.indents.proofs.Laws.{deeper-fits}
-
-pub line-out : (ls : List ℕ) (i k : ℕ) → length ls / 5 < i → 0 ≡ numberAt ls (5 * i + k)
-line-out ls i k h = number-out ls (5 * i + k) (omega arith)
 
 pub deepened : (w d l r : ℕ) → d ≡ indentOf w → l ≤ d → r ≡ deeperBy (d - l) l → r ≡ indentOf w
 unfolding indentOf

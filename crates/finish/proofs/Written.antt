@@ -2,21 +2,20 @@
 use mathlib.Core.Path.{_≡_, refl, sym, ap, _∙_}
 use mathlib.Core.Bool.{Bool, true, false, cond}
 use mathlib.Core.Option.{Option, none, some}
-use mathlib.Core.List.{List, [], _∷_, _++_, map}
-use Prim.Native.Nat.{ℕ, zero, suc, _+_, _*_, _-_, _/_, _<_}
+use mathlib.Core.List.{List, [], _∷_, map}
+use Prim.Native.Nat.{ℕ, suc, _+_, _*_, _-_, _<_}
 use native.Mathlib.Omega.{arith}
 use borrow.Author.Tests.{eq-eqb, ne-eqb}
-use lib.ListN.{length}
 use Rattle.definition.specs.Lists.{range}
 use Rattle.definition.specs.Tokens.{Token, Line}
 use Rattle.definition.specs.Negate.{closeTokens, openTokens, doTokens, whileTokens}
+use Rattle.records.proofs.Ranges.{map-snoc}
 use Rattle.room.specs.declared.out.Out.{Out}
 use Rattle.room.specs.declared.out.At.the-variants.{Nowhere, Address}
 use Rattle.room.specs.Room.{Room, Sheet, sheetOf, isFull, emitAll, seen, optionOf, writeLine, writeAll, seenSheet}
 use Rattle.room.specs.Ending.{Ended}
 use Rattle.room.proofs.Laws.{seen-end, writes, written-none}
 use Rattle.sheet.specs.Buffers.{numberAt, tokensIn, firstOf, lastOf}
-use Rattle.sheet.proofs.Reading.{number-out}
 use Rattle.outline.specs.Rows.{kindOf, originOf, indentOf}
 use Rattle.outline.specs.Tests.{at}
 use Rattle.finish.specs.Finishing.{countOf, addressIn, rowAddress, laterToks, kindToks, originToks, rowLine, linesIn, Headed, HeadedRow, Heads}
@@ -32,17 +31,11 @@ module _ (ls : List ℕ) (i a b : ℕ) (first : a ≡ firstOf ls i) (last : b �
   count-some = rw (first, last)
 
 module _ (ls : List ℕ) (i : ℕ) where
-  pub address-out : length ls / 5 < i → optionOf Nowhere ≡ addressIn ls i
-  unfolding optionOf addressIn
-  address-out h =
-      let z = number-out ls (5 * i) (omega arith) in
-      rw (← z)
-
-  pub address-none : (x : ℕ) → x ≡ numberAt ls (5 * i) → (x ≡ 1 → ⊥) → optionOf Nowhere ≡ addressIn ls i
+  pub address-none : (x : ℕ) → x ≡ numberAt ls (5 * i + 0) → (x ≡ 1 → ⊥) → optionOf Nowhere ≡ addressIn ls i
   unfolding optionOf addressIn
   address-none x e n = rw (← e, ne-eqb x 1 n)
 
-  pub address-some : (x y : ℕ) → x ≡ numberAt ls (5 * i) → x ≡ 1 → y ≡ numberAt ls (5 * i + 1) → optionOf (Address y) ≡ addressIn ls i
+  pub address-some : (x y : ℕ) → x ≡ numberAt ls (5 * i + 0) → x ≡ 1 → y ≡ numberAt ls (5 * i + 1) → optionOf (Address y) ≡ addressIn ls i
   unfolding optionOf addressIn
   address-some x y e z f = rw (← e, eq-eqb x 1 z, ← f)
 
@@ -120,13 +113,6 @@ module _ (ls ks t rows : List ℕ) where
   abbrev line : ℕ → Line
   line i = rowLine ls ks t (at rows i)
 
-  lines-snoc : (a k : ℕ) → map line (range a (suc k)) ≡ map line (range a k) ++ (line (a + k) ∷ [])
-  unfolding range
-  lines-snoc a zero = let p : a + 0 ≡ a = omega arith in rw p
-  lines-snoc a (suc k) =
-      let p : a + suc k ≡ a + 1 + k = omega arith in
-      rw p (ap (λ (l : List Line). line a ∷ l) (lines-snoc (a + 1) k))
-
   pub lines-start : (s : Sheet) → seenSheet s ≡ seenSheet (writeAll s (linesIn ls ks t rows 0))
   unfolding linesIn range
   lines-start s = written-none s
@@ -138,7 +124,7 @@ module _ (ls ks t rows : List ℕ) where
       let p : i + 1 ≡ suc i = omega arith in
       let z : 0 + i ≡ i = omega arith in
       let q : seenSheet s₂ ≡ seenSheet (writeAll s₁ (line i ∷ [])) = rw (← e) g in
-      rw (p, lines-snoc 0 i, z) (writes s₂ s₁ s₀ (map line (range 0 i)) (line i ∷ []) h q)
+      rw (p, map-snoc line 0 i, z) (writes s₂ s₁ s₀ (map line (range 0 i)) (line i ∷ []) h q)
 
   pub lines-end : (s s₀ : Sheet) (i n : ℕ) → i ≡ n → seenSheet s ≡ seenSheet (writeAll s₀ (linesIn ls ks t rows i)) → seenSheet s ≡ seenSheet (writeAll s₀ (linesIn ls ks t rows n))
   lines-end s s₀ i n e h = rw (← e) h

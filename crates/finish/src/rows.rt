@@ -5,19 +5,14 @@ use outline::rows::kind_of;
 use room::out::At;
 use sheet::lines::first_of;
 use sheet::lines::last_of;
-use sheet::tokens::number_at;
+use sheet::lines::line_number;
 ghost use mathlib.Core.Path.{_≡_};
 ghost use Rattle.room.specs.Room.{optionOf};
-ghost use Prim.Native.Nat.{_+_, _*_, _<_};
-ghost use Rattle.sheet.specs.Buffers.{numberAt};
 ghost use Rattle.outline.specs.Rows.{indentOf, originOf};
 ghost use Rattle.finish.specs.Finishing.{countOf, addressIn, rowAddress};
 
 // The kind of a closing row.
 pub const CLOSE: u64 = 6;
-
-// The numbers of a line.
-const ROW: usize = 5;
 
 // The lowered line that the row comes from.
 pub fn origin_of(w: u64) -> usize
@@ -42,13 +37,10 @@ pub fn count_of(from: &[u64], i: usize) -> usize
 fn address_at(from: &[u64], i: usize) -> At
     ensures { λ r. ⌜ optionOf r ≡ addressIn (now (from .entry)) i ⌝ }
 {
-    if from.len() / ROW < i {
+    if line_number(from, i, 0) != 1 {
         return At::Nowhere;
     }
-    if number_at(from, ROW * i) != 1 {
-        return At::Nowhere;
-    }
-    At::Address(number_at(from, ROW * i + 1))
+    At::Address(line_number(from, i, 1))
 }
 
 // What the row's line stands at.
@@ -59,17 +51,6 @@ pub fn row_address(from: &[u64], w: u64) -> At
         return At::Nowhere;
     }
     address_at(from, origin_of(w))
-}
-
-// Number k of line i.
-fn line_number(from: &[u64], i: usize, k: usize) -> u64
-    requires { ⌜ k < 5 ⌝ }
-    ensures { λ r. ⌜ r ≡ numberAt (now (from .entry)) (5 * i + k) ⌝ }
-{
-    if from.len() / ROW < i {
-        return 0;
-    }
-    number_at(from, ROW * i + k)
 }
 
 // How deep the row's line stands: its record as lowering left it, raised as often as the row was.

@@ -6,7 +6,7 @@ use Prim.Native.Nat.{ℕ, zero, suc}
 use lib.Dec.{eqb}
 use Rattle.definition.proofs.Bools.{eqb-swap}
 use Rattle.records.proofs.Also.{and-cross}
-use Rattle.defined.proofs.Ranges.{map-last}
+use Rattle.records.proofs.Ranges.{map-last}
 use Rattle.definition.specs.Lists.{any, range, allBelow, among, distinct}
 
 not-or : (a b : Bool) → not (a || b) ≡ (not a && not b)

@@ -27,6 +27,16 @@ range-last n =
     let q : 0 + n ≡ n = omega arith in
     ap (range 0) p ∙ range-parts 0 n 1 ∙ ap (λ (k : ℕ). range 0 n ++ (k ∷ [])) q
 
+-- one number more, at the end
+module _ {A : Type 0} (g : ℕ → A) where
+  pub map-snoc : (a n : ℕ) → map g (range a (suc n)) ≡ map g (range a n) ++ (g (a + n) ∷ [])
+  unfolding range
+  map-snoc a zero = let p : a + 0 ≡ a = omega arith in rw p
+  map-snoc a (suc n) = let p : a + suc n ≡ a + 1 + n = omega arith in rw p (ap (λ (l : List A). g a ∷ l) (map-snoc (a + 1) n))
+
+  pub map-last : (n : ℕ) → map g (range 0 (suc n)) ≡ map g (range 0 n) ++ (g n ∷ [])
+  map-last n = ap (map g) (range-last n) ∙ map-append g (range 0 n) (n ∷ [])
+
 -- from another start
 pub shift : {A : Type 0} (g : ℕ → A) (a b n : ℕ) → map (λ k. g (a + k)) (range b n) ≡ map g (range (a + b) n)
 unfolding range

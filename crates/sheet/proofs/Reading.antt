@@ -106,9 +106,8 @@ pub start-later : (l : List ℕ) (j x : ℕ) → (j ≡ 0 → ⊥) → x ≡ end
 unfolding startAt
 start-later l j x n e = rw (ne-eqb j 0 n) e
 
-pub last-out : (l : List ℕ) (i : ℕ) → length l / 5 < i → 0 ≡ lastOf l i
-unfolding lastOf
-last-out l i h = number-out l (5 * i + 3) (omega arith)
+pub line-out : (l : List ℕ) (i k : ℕ) → length l / 5 < i → 0 ≡ numberAt l (5 * i + k)
+line-out l i k h = number-out l (5 * i + k) (omega arith)
 
 pub last-in : (l : List ℕ) (i x : ℕ) → x ≡ numberAt l (5 * i + 3) → x ≡ lastOf l i
 unfolding lastOf

@@ -2,7 +2,7 @@
 use mathlib.Core.Path.{_≡_, sym, _∙_}
 use mathlib.Core.Bool.{Bool}
 use mathlib.Core.List.{List}
-use Prim.Native.Nat.{ℕ}
+use Prim.Native.Nat.{ℕ, _+_, _*_}
 use Rattle.definition.specs.Texts.{same, isEmpty, begins, contains}
 use Rattle.definition.specs.Tokens.{tok}
 use Rattle.definition.specs.Sorts.{isTok}
@@ -27,6 +27,9 @@ token-is ks t j k w = equation (isTok (tok k w) (tokenAt ks t j))
 
 pub place : (ks : List ℕ) (p r s : ℕ) → SamePlace ks r p → SamePlace ks s p → SamePlace ks r s
 place ks p r s a b = record { number = a .number ∙ sym (b .number); start = a .start ∙ sym (b .start) }
+
+pub line-number : (l : List ℕ) (i k r s : ℕ) → r ≡ numberAt l (5 * i + k) → s ≡ numberAt l (5 * i + k) → r ≡ s
+line-number l i k = equation (numberAt l (5 * i + k))
 
 pub first-of : (l : List ℕ) (i r s : ℕ) → r ≡ firstOf l i → s ≡ firstOf l i → r ≡ s
 first-of l i = equation (firstOf l i)

@@ -1,20 +1,29 @@
-// The tokens of a line: from the end of the line before it to its own.
+// The numbers of a line, and its tokens: from the end of the line before it to its own.
 use crate::tokens::number_at;
 ghost use mathlib.Core.Path.{_≡_};
-ghost use Rattle.sheet.specs.Buffers.{firstOf, lastOf};
+ghost use Prim.Native.Nat.{_+_, _*_, _<_};
+ghost use Rattle.sheet.specs.Buffers.{numberAt, firstOf, lastOf};
 
 // The numbers of a line, and which of them is the end of its tokens.
 const ROW: usize = 5;
 
 const END: usize = 3;
 
-pub fn last_of(lines: &[u64], i: usize) -> usize
-    ensures { λ r. ⌜ r ≡ lastOf (now (lines .entry)) i ⌝ }
+// Number k of line i.
+pub fn line_number(lines: &[u64], i: usize, k: usize) -> u64
+    requires { ⌜ k < 5 ⌝ }
+    ensures { λ r. ⌜ r ≡ numberAt (now (lines .entry)) (5 * i + k) ⌝ }
 {
     if lines.len() / ROW < i {
         return 0;
     }
-    number_at(lines, ROW * i + END) as usize
+    number_at(lines, ROW * i + k)
+}
+
+pub fn last_of(lines: &[u64], i: usize) -> usize
+    ensures { λ r. ⌜ r ≡ lastOf (now (lines .entry)) i ⌝ }
+{
+    line_number(lines, i, END) as usize
 }
 
 pub fn first_of(lines: &[u64], i: usize) -> usize

@@ -1,6 +1,6 @@
--- Lists over the numbers from 0 on: what stands at a place, and one number more, at the end.
+-- Lists over the numbers from 0 on: what stands at a place, and lists that have it.
 use mathlib.Core.Path.{_≡_, sym, ap, _∙_}
-use mathlib.Core.List.{List, [], _∷_, _++_, map}
+use mathlib.Core.List.{List, map}
 use Prim.Native.Nat.{ℕ, zero, suc, _+_, _<_}
 use native.Mathlib.Omega.{arith}
 use lib.ListN.{length, getD, length-map}
@@ -22,14 +22,6 @@ module _ {A : Type 0} (f : ℕ → A) where
 
   pub below-at : (n i : ℕ) (d : A) → i < n → getD (map f (range 0 n)) i d ≡ f i
   below-at n i d h = let p : 0 + i ≡ i = omega arith in from-at 0 n i d h ∙ ap f p
-
-  from-snoc : (a n : ℕ) → map f (range a (suc n)) ≡ map f (range a n) ++ (f (a + n) ∷ [])
-  unfolding range
-  from-snoc a zero = let p : a + 0 ≡ a = omega arith in rw p
-  from-snoc a (suc n) = let p : a + suc n ≡ a + 1 + n = omega arith in rw p (ap (λ (l : List A). f a ∷ l) (from-snoc (a + 1) n))
-
-  pub below-snoc : (n : ℕ) → map f (range 0 (suc n)) ≡ map f (range 0 n) ++ (f n ∷ [])
-  below-snoc n = let p : 0 + n ≡ n = omega arith in from-snoc 0 n ∙ rw p
 
   -- a list that has f at each place
   pub below-is : (xs : List A) (d : A) → ((i : ℕ) → i < length xs → f i ≡ getD xs i d) → map f (range 0 (length xs)) ≡ xs

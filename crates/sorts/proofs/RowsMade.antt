@@ -3,7 +3,7 @@ use mathlib.Core.Path.{_≡_, refl, sym, ap, ap₂, _∙_}
 use mathlib.Core.Bool.{Bool, true, false}
 use mathlib.Core.Option.{Option}
 use mathlib.Core.List.{List, _∷_, _++_, map}
-use Prim.Native.Nat.{ℕ, suc, _+_, _*_, _-_, _/_, _%_, _≤_, _<_}
+use Prim.Native.Nat.{ℕ, suc, _+_, _*_, _-_, _%_, _≤_, _<_}
 use native.Mathlib.Omega.{arith}
 use native.Mathlib.Numerals.{add-one}
 use lib.ListN.{length, drop, set, length-append, length-drop}
@@ -12,25 +12,18 @@ use Rattle.definition.specs.Texts.{txt}
 use Rattle.definition.specs.Lists.{range}
 use Rattle.definition.specs.Tokens.{Token, Line, keyword}
 use Rattle.definition.specs.Sorts.{Sort, sort, sortOf, sortAt, sortRest, sortJump, isLabel, gotoTarget, firstIs}
+use Rattle.records.proofs.Ranges.{map-last}
 use Rattle.sheet.specs.Buffers.{numberAt, textAt, tokensIn, firstOf, lastOf, lineIn}
 use Rattle.sheet.specs.Ranges.{least}
-use Rattle.sheet.proofs.Reading.{number-out, least-le}
+use Rattle.sheet.proofs.Reading.{least-le}
 use Rattle.sorts.specs.declared.lines.Target.{Target}
 use Rattle.sorts.specs.declared.lines.Target.the-variants.{Token as At, Nowhere}
 use Rattle.sorts.specs.Places.{targetText}
-use Rattle.sorts.specs.Sorted.{labelNumber, kindIn, jumpKind, nameIn, indentIn, packed, rowOf, linesIn, sorted}
-use Rattle.sorts.proofs.Ranges.{below-length, below-snoc}
+use Rattle.sorts.specs.Sorted.{labelNumber, kindIn, jumpKind, nameIn, packed, rowOf, linesIn, sorted}
+use Rattle.sorts.proofs.Ranges.{below-length}
 use Rattle.sorts.proofs.Naming.{rest-sort, toks-are, line-at}
 
 -- ---- numbers
-pub indent-out : (l : List ℕ) (i : ℕ) → length l / 5 < i → 0 ≡ indentIn l i
-unfolding indentIn
-indent-out l i h = number-out l (5 * i + 2) (omega arith)
-
-pub indent-in : (l : List ℕ) (i x : ℕ) → x ≡ numberAt l (5 * i + 2) → x ≡ indentIn l i
-unfolding indentIn
-indent-in l i x e = e
-
 pub packed-is : (k d m o : ℕ) → k % 16 + 16 * (d % 4096) + 65536 * (m % 16777216) + 1099511627776 * (o % 16777216) ≡ packed k d m o
 unfolding packed
 packed-is k d m o = refl
@@ -50,7 +43,7 @@ unfolding sortJump jumpKind kindIn nameIn
 jump-row true u xs d i = refl
 jump-row false u xs d i = refl
 
-module _ (ls ks t : List ℕ) (n i : ℕ) (h : i < n) (a e d : ℕ) (first : a ≡ firstOf ls i) (last : e ≡ lastOf ls i) (indent : d ≡ indentIn ls i) where
+module _ (ls ks t : List ℕ) (n i : ℕ) (h : i < n) (a e d : ℕ) (first : a ≡ firstOf ls i) (last : e ≡ lastOf ls i) (indent : d ≡ numberAt ls (5 * i + 2)) where
   abbrev xs : List Line
   xs = linesIn ls ks t n
 
@@ -58,7 +51,7 @@ module _ (ls ks t : List ℕ) (n i : ℕ) (h : i < n) (a e d : ℕ) (first : a �
   ts = tokensIn ks t a (e - a)
 
   indent-is : lineIn ls ks t i .indent ≡ d
-  unfolding lineIn indentIn
+  unfolding lineIn
   indent-is = sym indent
 
   row-by : (s : Sort) → sortOf ts ≡ s → rowOf xs i ≡ packed (kindIn s) d (nameIn xs i s) i
@@ -122,7 +115,7 @@ module _ (f : ℕ → ℕ) (R₀ : List ℕ) where
           ap (λ (l : List ℕ). set l i v) (g .is ∙ ap (λ (l : List ℕ). map f (range 0 i) ++ l) (drop-cons R₀ i 0 h))
           ∙ set-at (map f (range 0 i)) _ (drop (suc i) R₀) v i (below-length f i)
           ∙ ap (λ (x : ℕ). map f (range 0 i) ++ x ∷ drop (suc i) R₀) e
-          ∙ sym (rw (p, below-snoc f i) (append-snoc (map f (range 0 i)) (f i) (drop (suc i) R₀)));
+          ∙ sym (rw (p, map-last f i) (append-snoc (map f (range 0 i)) (f i) (drop (suc i) R₀)));
       within = omega arith;
     }
 

@@ -9,8 +9,7 @@ use Rattle.definition.specs.Tokens.{Line}
 use Rattle.definition.specs.Sorts.{Sort, sort}
 use Rattle.definition.specs.Sorts.Sort.{label, condTo, jumpTo, plain, ifOpen, close, doOpen, whileClose}
 use Rattle.definition.specs.Passes.{named}
-use Rattle.definition.specs.Listing.{lineNumbers}
-use Rattle.sheet.specs.Buffers.{numberAt, lineIn}
+use Rattle.sheet.specs.Buffers.{lineIn}
 use Rattle.sheet.specs.Ranges.{least}
 use Rattle.outline.specs.Rows.{LABEL, COND, JUMP, lineAt}
 use Rattle.sorts.specs.Places.{firstPlace}
@@ -56,10 +55,6 @@ nameIn xs i whileClose = 0
 -- kind, indent, name and origin in one number, each as far as its field goes
 unfoldable pub packed : ℕ → ℕ → ℕ → ℕ → ℕ
 packed k d m o = k % 16 + 16 * (d % 4096) + 65536 * (m % 16777216) + 1099511627776 * (o % 16777216)
-
--- the indent of line i, in the buffers
-unfoldable pub indentIn : List ℕ → ℕ → ℕ
-indentIn ls i = numberAt ls (lineNumbers * i + 2)
 
 -- the row of line i
 unfoldable pub rowOf : List Line → ℕ → ℕ

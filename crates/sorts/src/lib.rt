@@ -12,32 +12,21 @@ use outline::rows::JUMP;
 use outline::rows::LABEL;
 use sheet::lines::first_of;
 use sheet::lines::last_of;
+use sheet::lines::line_number;
 use sheet::ranges::least;
-use sheet::tokens::number_at;
 ghost use mathlib.Core.Path.{_≡_};
 ghost use Prim.Native.Nat.{_-_, _<_};
 ghost use Rattle.definition.specs.Texts.{txt};
 ghost use Rattle.definition.specs.Tokens.{keyword};
 ghost use Rattle.definition.specs.Sorts.{firstIs};
 ghost use Rattle.sheet.specs.Buffers.{tokensIn};
-ghost use Rattle.sorts.specs.Sorted.{jumpKind, indentIn, packed, rowOf, linesIn, sorted};
+ghost use Rattle.sorts.specs.Sorted.{jumpKind, packed, rowOf, linesIn, sorted};
 
 // The kind of all other lines.
 const PLAIN: u64 = 4;
 
-// The numbers of a line, and which of them is its indent.
-const ROW: usize = 5;
-
+// Which of a line's numbers is its indent.
 const INDENT: usize = 2;
-
-fn indent_at(lines: &[u64], i: usize) -> u64
-    ensures { λ r. ⌜ r ≡ indentIn (now (lines .entry)) i ⌝ }
-{
-    if lines.len() / ROW < i {
-        return 0;
-    }
-    number_at(lines, ROW * i + INDENT)
-}
 
 fn pack(kind: u64, indent: u64, name: usize, origin: usize) -> u64
     ensures { λ r. ⌜ r ≡ packed kind indent name origin ⌝ }
@@ -63,7 +52,7 @@ fn row(lines: &[u64], tokens: &[u64], text: &[u8], n: usize, i: usize) -> u64
 {
     let a = first_of(lines, i);
     let e = last_of(lines, i);
-    let d = indent_at(lines, i);
+    let d = line_number(lines, i, INDENT);
     if is_label(tokens, text, a, e) {
         return pack(LABEL, d, i + 1, i);
     }

@@ -8,10 +8,6 @@ use Rattle.finish.specs.Finishing.{linesIn}
 use Rattle.finish.proofs.Written.{lines-start, lines-turn, lines-end, heads-at}
 use Rattle.finish.proofs.finish.Statement.{statement}
 use Rattle.finish.proofs.finish.Tie as tie
-use Rattle.finish.proofs.finish.Reads as reads
-use Rattle.finish.proofs.finish.Lts as lts
-use Rattle.finish.proofs.write_row.Reads as write-row-reads
-use Rattle.outline.proofs.rows.row_at.Reads as row-at-reads
 
 abbrev Inv-loop : tie.InvT-loop
 Inv-loop lines₀ tokens₀ text₀ rows n from lowered source out₀ i₀ lines tokens text out i = (seenSheet (sheetOf lines tokens text out) ≡ seenSheet (writeAll (sheetOf lines₀ tokens₀ text₀ out₀) (linesIn from lowered source rows i))) × (i ≤ n) × (length lines ≡ length lines₀) × (length tokens ≡ length tokens₀) × (length text ≡ length text₀)

@@ -2,16 +2,6 @@ use Rattle.finish.proofs.Written.{row-written, row-headed}
 use borrow.Author.Needs.{needs}
 use Rattle.finish.proofs.write_row.Statement.{statement}
 use Rattle.finish.proofs.write_row.Tie as tie
-use Rattle.finish.proofs.write_row.Reads as reads
-use Rattle.finish.proofs.write_row.Lts as lts
-use Rattle.finish.proofs.kinds.put_row.Reads as put-row-reads
-use Rattle.finish.proofs.rows.count_of.Reads as count-of-reads
-use Rattle.finish.proofs.rows.origin_of.Reads as origin-of-reads
-use Rattle.finish.proofs.rows.row_address.Reads as row-address-reads
-use Rattle.finish.proofs.rows.row_indent.Reads as row-indent-reads
-use Rattle.outline.proofs.rows.kind_of.Reads as kind-of-reads
-use Rattle.room.proofs.line.end_line.Reads as end-line-reads
-use Rattle.sheet.proofs.lines.first_of.Reads as first-of-reads
 
 origin-of-requires : tie.Need-origin-of-requires
 origin-of-requires c κs = search needs

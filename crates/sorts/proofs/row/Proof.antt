@@ -9,8 +9,8 @@ first-of-requires c κs = search needs
 last-of-requires : tie.Need-last-of-requires
 last-of-requires c κs = search needs
 
-indent-at-requires : tie.Need-indent-at-requires
-indent-at-requires c κs = search needs
+line-number-requires : tie.Need-line-number-requires
+line-number-requires c κs = search needs
 
 is-label-requires : tie.Need-is-label-requires
 is-label-requires c κs = search needs
@@ -22,7 +22,7 @@ pack-requires : tie.Need-pack-requires
 pack-requires c κs = search needs
 
 returns : tie.Need-returns
-returns c = row-label _ _ _ _ _ (c .before .before .before .before .before .before .before .before .before .pre) _ _ _ (c .before .before .before .before .before .first-of .ensures) (c .before .before .before .before .last-of .ensures) (c .before .before .before .indent-at .ensures) _ (c .before .before .is-label .ensures) (c .before .if1 .taken) _ (c .pack .ensures)
+returns c = row-label _ _ _ _ _ (c .before .before .before .before .before .before .before .before .before .pre) _ _ _ (c .before .before .before .before .before .first-of .ensures) (c .before .before .before .before .last-of .ensures) (c .before .before .before .line-number .ensures) _ (c .before .before .is-label .ensures) (c .before .if1 .taken) _ (c .pack .ensures)
 
 goto-target-requires : tie.Need-goto-target-requires
 goto-target-requires c κs = search needs
@@ -37,7 +37,7 @@ pack-requires-2 : tie.Need-pack-requires-2
 pack-requires-2 c κs = search needs
 
 returns-2 : tie.Need-returns-2
-returns-2 c = row-plain _ _ _ _ _ (c .before .before .before .before .before .before .before .before .before .before .before .before .pre) _ _ _ (c .before .before .before .before .before .before .before .before .first-of .ensures) (c .before .before .before .before .before .before .before .last-of .ensures) (c .before .before .before .before .before .before .indent-at .ensures) _ (c .before .before .before .before .before .is-label .ensures) (c .before .before .before .before .if1 .left) _ (c .before .before .before .goto-target .ensures) (c .before .enum-told .given .1) _ (c .pack2 .ensures)
+returns-2 c = row-plain _ _ _ _ _ (c .before .before .before .before .before .before .before .before .before .before .before .before .pre) _ _ _ (c .before .before .before .before .before .before .before .before .first-of .ensures) (c .before .before .before .before .before .before .before .last-of .ensures) (c .before .before .before .before .before .before .line-number .ensures) _ (c .before .before .before .before .before .is-label .ensures) (c .before .before .before .before .if1 .left) _ (c .before .before .before .goto-target .ensures) (c .before .enum-told .given .1) _ (c .pack2 .ensures)
 
 find-label-requires : tie.Need-find-label-requires
 find-label-requires c κs = search needs
@@ -49,7 +49,7 @@ pack-requires-3 : tie.Need-pack-requires-3
 pack-requires-3 c κs = search needs
 
 returns-3 : tie.Need-returns-3
-returns-3 c = row-jump _ _ _ _ _ (c .before .before .before .before .before .before .before .before .before .before .before .before .before .before .before .pre) _ _ _ (c .before .before .before .before .before .before .before .before .before .before .before .first-of .ensures) (c .before .before .before .before .before .before .before .before .before .before .last-of .ensures) (c .before .before .before .before .before .before .before .before .before .indent-at .ensures) _ (c .before .before .before .before .before .before .before .before .is-label .ensures) (c .before .before .before .before .before .before .before .if1 .left) _ (c .before .before .before .before .before .before .goto-target .ensures) _ _ _ (c .before .before .before .before .p .given .1) (c .before .before .find-label .ensures) (c .before .jump-kind .ensures) _ (c .pack3 .ensures)
+returns-3 c = row-jump _ _ _ _ _ (c .before .before .before .before .before .before .before .before .before .before .before .before .before .before .before .pre) _ _ _ (c .before .before .before .before .before .before .before .before .before .before .before .first-of .ensures) (c .before .before .before .before .before .before .before .before .before .before .last-of .ensures) (c .before .before .before .before .before .before .before .before .before .line-number .ensures) _ (c .before .before .before .before .before .before .before .before .is-label .ensures) (c .before .before .before .before .before .before .before .if1 .left) _ (c .before .before .before .before .before .before .goto-target .ensures) _ _ _ (c .before .before .before .before .p .given .1) (c .before .before .find-label .ensures) (c .before .jump-kind .ensures) _ (c .pack3 .ensures)
 
 pub row-spec : {M : Type 1} → statement M
 row-spec =
@@ -57,7 +57,7 @@ row-spec =
     (tie.spec
     first-of-requires
     last-of-requires
-    indent-at-requires
+    line-number-requires
     is-label-requires
     add-pack
     pack-requires

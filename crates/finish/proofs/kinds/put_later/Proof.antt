@@ -2,11 +2,6 @@ use Rattle.finish.proofs.Written.{is-do, is-while, is-plain}
 use borrow.Author.Needs.{needs}
 use Rattle.finish.proofs.kinds.put_later.Statement.{statement}
 use Rattle.finish.proofs.kinds.put_later.Tie as tie
-use Rattle.finish.proofs.kinds.put_later.Reads as reads
-use Rattle.finish.proofs.kinds.put_later.Lts as lts
-use Rattle.clips.proofs.copies.put_line.Reads as put-line-reads
-use Rattle.negate.proofs.heads.put_do.Reads as put-do-reads
-use Rattle.negate.proofs.heads.put_while.Reads as put-while-reads
 
 put-do-requires : tie.Need-put-do-requires
 put-do-requires c κs = search needs

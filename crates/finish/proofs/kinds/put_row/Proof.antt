@@ -2,11 +2,6 @@ use Rattle.finish.proofs.Written.{is-close, is-open, is-later}
 use borrow.Author.Needs.{needs}
 use Rattle.finish.proofs.kinds.put_row.Statement.{statement}
 use Rattle.finish.proofs.kinds.put_row.Tie as tie
-use Rattle.finish.proofs.kinds.put_row.Reads as reads
-use Rattle.finish.proofs.kinds.put_row.Lts as lts
-use Rattle.finish.proofs.kinds.put_later.Reads as put-later-reads
-use Rattle.negate.proofs.heads.put_close.Reads as put-close-reads
-use Rattle.negate.proofs.heads.put_open.Reads as put-open-reads
 
 put-close-requires : tie.Need-put-close-requires
 put-close-requires c κs = search needs

@@ -2,10 +2,6 @@ use Rattle.finish.proofs.Written.{count-none, count-some}
 use borrow.Author.Needs.{needs}
 use Rattle.finish.proofs.rows.count_of.Statement.{statement}
 use Rattle.finish.proofs.rows.count_of.Tie as tie
-use Rattle.finish.proofs.rows.count_of.Reads as reads
-use Rattle.finish.proofs.rows.count_of.Lts as lts
-use Rattle.sheet.proofs.lines.first_of.Reads as first-of-reads
-use Rattle.sheet.proofs.lines.last_of.Reads as last-of-reads
 
 first-of-requires : tie.Need-first-of-requires
 first-of-requires c κs = search needs

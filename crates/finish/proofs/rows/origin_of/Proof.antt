@@ -2,8 +2,6 @@ use mathlib.Core.Path.{refl}
 use Rattle.outline.specs.Rows.{originOf}
 use Rattle.finish.proofs.rows.origin_of.Statement.{statement}
 use Rattle.finish.proofs.rows.origin_of.Tie as tie
-use Rattle.finish.proofs.rows.origin_of.Reads as reads
-use Rattle.finish.proofs.rows.origin_of.Lts as lts
 
 returns : tie.Need-returns
 unfolding originOf

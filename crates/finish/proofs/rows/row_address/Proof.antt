@@ -2,11 +2,6 @@ use Rattle.finish.proofs.Written.{row-closes, row-stands}
 use borrow.Author.Needs.{needs}
 use Rattle.finish.proofs.rows.row_address.Statement.{statement}
 use Rattle.finish.proofs.rows.row_address.Tie as tie
-use Rattle.finish.proofs.rows.row_address.Reads as reads
-use Rattle.finish.proofs.rows.row_address.Lts as lts
-use Rattle.finish.proofs.rows.address_at.Reads as address-at-reads
-use Rattle.finish.proofs.rows.origin_of.Reads as origin-of-reads
-use Rattle.outline.proofs.rows.kind_of.Reads as kind-of-reads
 
 kind-of-requires : tie.Need-kind-of-requires
 kind-of-requires c κs = search needs

@@ -2,12 +2,6 @@ use Rattle.finish.proofs.Deepened.{deepened}
 use borrow.Author.Needs.{needs}
 use Rattle.finish.proofs.rows.row_indent.Statement.{statement}
 use Rattle.finish.proofs.rows.row_indent.Tie as tie
-use Rattle.finish.proofs.rows.row_indent.Reads as reads
-use Rattle.finish.proofs.rows.row_indent.Lts as lts
-use Rattle.finish.proofs.rows.line_number.Reads as line-number-reads
-use Rattle.finish.proofs.rows.origin_of.Reads as origin-of-reads
-use Rattle.indents.proofs.raised.Reads as raised-reads
-use Rattle.outline.proofs.rows.indent_of.Reads as indent-of-reads
 
 indent-of-requires : tie.Need-indent-of-requires
 indent-of-requires c κs = search needs

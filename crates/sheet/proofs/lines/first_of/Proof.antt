@@ -2,9 +2,6 @@ use Rattle.sheet.proofs.Reading.{first-first, first-later}
 use borrow.Author.Needs.{needs}
 use Rattle.sheet.proofs.lines.first_of.Statement.{statement}
 use Rattle.sheet.proofs.lines.first_of.Tie as tie
-use Rattle.sheet.proofs.lines.first_of.Reads as reads
-use Rattle.sheet.proofs.lines.first_of.Lts as lts
-use Rattle.sheet.proofs.lines.last_of.Reads as last-of-reads
 
 returns : tie.Need-returns
 returns c = first-first _ _ (c .if1 .taken)

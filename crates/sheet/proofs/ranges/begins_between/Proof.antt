@@ -1,10 +1,6 @@
 use borrow.Author.Needs.{needs}
 use Rattle.sheet.proofs.ranges.begins_between.Statement.{statement}
 use Rattle.sheet.proofs.ranges.begins_between.Tie as tie
-use Rattle.sheet.proofs.ranges.begins_between.Reads as reads
-use Rattle.sheet.proofs.ranges.begins_between.Lts as lts
-use Rattle.sheet.proofs.ranges.part.Reads as part-reads
-use Rattle.words.proofs.begins_at.Reads as begins-at-reads
 
 part-requires : tie.Need-part-requires
 part-requires c κs = search needs

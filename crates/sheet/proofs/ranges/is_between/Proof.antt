@@ -1,10 +1,6 @@
 use borrow.Author.Needs.{needs}
 use Rattle.sheet.proofs.ranges.is_between.Statement.{statement}
 use Rattle.sheet.proofs.ranges.is_between.Tie as tie
-use Rattle.sheet.proofs.ranges.is_between.Reads as reads
-use Rattle.sheet.proofs.ranges.is_between.Lts as lts
-use Rattle.sheet.proofs.ranges.part.Reads as part-reads
-use Rattle.words.proofs.same_text.Reads as same-text-reads
 
 part-requires : tie.Need-part-requires
 part-requires c κs = search needs

@@ -3,8 +3,6 @@ use mathlib.Core.Path.{sym}
 use Rattle.sheet.proofs.Reading.{least-left, least-right}
 use Rattle.sheet.proofs.ranges.least.Statement.{statement}
 use Rattle.sheet.proofs.ranges.least.Tie as tie
-use Rattle.sheet.proofs.ranges.least.Reads as reads
-use Rattle.sheet.proofs.ranges.least.Lts as lts
 
 returns : tie.Need-returns
 returns c = sym (least-left _ _ (c .if1 .taken))

@@ -2,9 +2,6 @@ use Rattle.sheet.proofs.Reading.{empty-is}
 use borrow.Author.Needs.{needs}
 use Rattle.sheet.proofs.ranges.none_between.Statement.{statement}
 use Rattle.sheet.proofs.ranges.none_between.Tie as tie
-use Rattle.sheet.proofs.ranges.none_between.Reads as reads
-use Rattle.sheet.proofs.ranges.none_between.Lts as lts
-use Rattle.sheet.proofs.ranges.least.Reads as least-reads
 
 least-requires : tie.Need-least-requires
 least-requires c κs = search needs

@@ -4,9 +4,6 @@ use native.Mathlib.Omega.{arith}
 use borrow.Author.Needs.{needs}
 use Rattle.sheet.proofs.ranges.part.Statement.{statement}
 use Rattle.sheet.proofs.ranges.part.Tie as tie
-use Rattle.sheet.proofs.ranges.part.Reads as reads
-use Rattle.sheet.proofs.ranges.part.Lts as lts
-use Rattle.sheet.proofs.ranges.least.Reads as least-reads
 
 least-requires : tie.Need-least-requires
 least-requires c κs = search needs

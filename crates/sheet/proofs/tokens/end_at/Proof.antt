@@ -2,9 +2,6 @@ use Rattle.sheet.proofs.Reading.{end-is}
 use borrow.Author.Needs.{needs}
 use Rattle.sheet.proofs.tokens.end_at.Statement.{statement}
 use Rattle.sheet.proofs.tokens.end_at.Tie as tie
-use Rattle.sheet.proofs.tokens.end_at.Reads as reads
-use Rattle.sheet.proofs.tokens.end_at.Lts as lts
-use Rattle.sheet.proofs.tokens.number_at.Reads as number-at-reads
 
 number-at-requires : tie.Need-number-at-requires
 number-at-requires c κs = search needs

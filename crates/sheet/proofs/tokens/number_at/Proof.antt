@@ -3,8 +3,6 @@ use Rattle.sheet.proofs.Reading.{number-in, number-out}
 use borrow.Author.Needs.{needs}
 use Rattle.sheet.proofs.tokens.number_at.Statement.{statement}
 use Rattle.sheet.proofs.tokens.number_at.Tie as tie
-use Rattle.sheet.proofs.tokens.number_at.Reads as reads
-use Rattle.sheet.proofs.tokens.number_at.Lts as lts
 
 mul-result : tie.Need-mul-result
 mul-result c = search needs

@@ -4,8 +4,6 @@ use Rattle.sheet.proofs.Reading.{place-past, place-is}
 use borrow.Author.Needs.{needs}
 use Rattle.sheet.proofs.tokens.place.Statement.{statement}
 use Rattle.sheet.proofs.tokens.place.Tie as tie
-use Rattle.sheet.proofs.tokens.place.Reads as reads
-use Rattle.sheet.proofs.tokens.place.Lts as lts
 
 returns : tie.Need-returns
 returns c = place-past _ _ _ (c .if1 .taken) (omega arith)

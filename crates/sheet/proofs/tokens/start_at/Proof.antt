@@ -2,9 +2,6 @@ use Rattle.sheet.proofs.Reading.{start-first, start-later}
 use borrow.Author.Needs.{needs}
 use Rattle.sheet.proofs.tokens.start_at.Statement.{statement}
 use Rattle.sheet.proofs.tokens.start_at.Tie as tie
-use Rattle.sheet.proofs.tokens.start_at.Reads as reads
-use Rattle.sheet.proofs.tokens.start_at.Lts as lts
-use Rattle.sheet.proofs.tokens.end_at.Reads as end-at-reads
 
 returns : tie.Need-returns
 returns c = start-first _ _ (c .if1 .taken)

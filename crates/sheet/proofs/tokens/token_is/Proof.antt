@@ -2,12 +2,6 @@ use Rattle.sheet.proofs.Reading.{token-other, token-same}
 use borrow.Author.Needs.{needs}
 use Rattle.sheet.proofs.tokens.token_is.Statement.{statement}
 use Rattle.sheet.proofs.tokens.token_is.Tie as tie
-use Rattle.sheet.proofs.tokens.token_is.Reads as reads
-use Rattle.sheet.proofs.tokens.token_is.Lts as lts
-use Rattle.sheet.proofs.ranges.is_between.Reads as is-between-reads
-use Rattle.sheet.proofs.tokens.end_at.Reads as end-at-reads
-use Rattle.sheet.proofs.tokens.kind_at.Reads as kind-at-reads
-use Rattle.sheet.proofs.tokens.start_at.Reads as start-at-reads
 
 kind-at-requires : tie.Need-kind-at-requires
 kind-at-requires c κs = search needs

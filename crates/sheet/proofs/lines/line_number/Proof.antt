@@ -1,10 +1,10 @@
-use Rattle.sorts.proofs.RowsMade.{indent-out, indent-in}
+use Rattle.sheet.proofs.Reading.{line-out}
 use borrow.Author.Needs.{needs}
-use Rattle.sorts.proofs.indent_at.Statement.{statement}
-use Rattle.sorts.proofs.indent_at.Tie as tie
+use Rattle.sheet.proofs.lines.line_number.Statement.{statement}
+use Rattle.sheet.proofs.lines.line_number.Tie as tie
 
 returns : tie.Need-returns
-returns c = indent-out _ _ (c .if1 .taken)
+returns c = line-out _ _ _ (c .if1 .taken)
 
 mul-number-at : tie.Need-mul-number-at
 mul-number-at c = search needs
@@ -16,8 +16,8 @@ number-at-requires : tie.Need-number-at-requires
 number-at-requires c κs = search needs
 
 returns-2 : tie.Need-returns-2
-returns-2 c = indent-in _ _ _ (c .number-at .ensures)
+returns-2 c = search needs
 
-pub indent-at-spec : {M : Type 1} → statement M
-indent-at-spec =
+pub line-number-spec : {M : Type 1} → statement M
+line-number-spec =
     tie.close (tie.spec returns mul-number-at add-number-at number-at-requires returns-2)
