@@ -1,6 +1,6 @@
 -- Loops over the numbers below a bound, whatever is tested or added: how they begin, a turn, an early end, and the end. t or x is what the
 -- body read of i, n is what the loop runs to, and m is what the definition calls it.
-use mathlib.Core.Path.{_≡_, refl, sym, ap, ap₂, _∙_}
+use mathlib.Core.Path.{_≡_, refl, sym, ap₂, _∙_}
 use mathlib.Core.Bool.{Bool, true, false, not, _&&_, and-false}
 use Prim.Native.Nat.{ℕ, zero, suc, _+_, _≤_, _<_}
 use native.Mathlib.Decide.{decLt}
@@ -9,7 +9,6 @@ use native.Mathlib.Omega.{arith}
 use lib.Dec.{eqb}
 use borrow.Author.Tests.{ne-eqb, not-true, not-false}
 use Rattle.definition.specs.Lists.{allBelow, sumBelow}
-use Rattle.records.proofs.Also.{and-cross}
 
 -- what is below suc n is below n, or n
 by-last : (A : Type 0) (i n : ℕ) → i < suc n → (i < n → A) → (i ≡ n → A) → A
@@ -45,12 +44,6 @@ pub all-same : (p q : ℕ → Bool) (n : ℕ) → ((i : ℕ) → i < n → p i �
 unfolding allBelow
 all-same p q zero h = refl
 all-same p q (suc n) h = ap₂ (λ (a b : Bool). a && b) (all-same p q n (λ i k. h i (omega arith))) (h n (omega arith))
-
--- two tests of every number are one
-pub all-both : (p q : ℕ → Bool) (n : ℕ) → (allBelow n p && allBelow n q) ≡ allBelow n (λ i. p i && q i)
-unfolding allBelow
-all-both p q zero = refl
-all-both p q (suc n) = and-cross (allBelow n p) (p n) (allBelow n q) (q n) ∙ ap (λ (a : Bool). a && (p n && q n)) (all-both p q n)
 
 -- ---- a sum
 module _ (g : ℕ → ℕ) where

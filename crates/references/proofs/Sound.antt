@@ -1,6 +1,6 @@
--- What each return of check 5 comes to: texts, records, and the whole check.
+-- What each return of check 5 comes to: texts, owners, and the whole check.
 use mathlib.Core.Path.{_≡_, refl, sym, ap, ap₂, _∙_}
-use mathlib.Core.Bool.{Bool, true, false, not, _&&_, and-true, and-false}
+use mathlib.Core.Bool.{Bool, true, false, not, cond, _&&_, and-true, and-false}
 use mathlib.Core.List.{List, _++_}
 use Prim.Native.Nat.{ℕ, suc, _+_, _-_, _≤_, _<_}
 use native.Mathlib.Numerals.{add-one}
@@ -11,14 +11,17 @@ use lib.Seq.{drop-cons, take-nil}
 use borrow.Author.Tests.{eq-eqb, ne-eqb, le-leb, lt-leb}
 use Rattle.definition.specs.Edition.{Edition, statements, expressions, names}
 use Rattle.definition.specs.Words.{part}
-use Rattle.definition.specs.Contents.{offset, size, text, textAt, exprWord, nameWord}
+use Rattle.definition.specs.Contents.{offset, size, text, textAt, exprWord}
 use Rattle.definition.specs.Lists.{all, count, gather, range, allBelow}
 use Rattle.definition.specs.Owners.{stmtKind, stmtField}
 use Rattle.definition.specs.References.{inText, printable, nameSound, stmtText, exprText, childrenLower, rootsInside}
 use Rattle.definition.specs.References.{roots, children, mentions, ownedOnce, refused5}
-use Rattle.references.specs.Named.{stmtSound, exprSound}
+use Rattle.references.specs.declared.references.Records.{Records}
+use Rattle.references.specs.declared.references.Records.the-variants.{Names, Stmts, Exprs}
+use Rattle.references.specs.declared.references.Text.{Text}
+use Rattle.references.specs.declared.references.Text.the-variants.{Absent, Any, Filled}
+use Rattle.references.specs.Texts.{recordWord, textOf, textInside, textsSound}
 use Rattle.references.specs.Tally.{ownersAt, tally, Answered}
-use Rattle.records.proofs.Below.{all-both}
 use Rattle.records.proofs.Also.{also}
 use Rattle.references.proofs.Tally.{both-runs, tally-keeps, tally-once}
 
@@ -71,57 +74,52 @@ module _ (E : Edition) (f : List ℕ) (start n : ℕ) where
   pub filled-some : (r : Bool) → (n ≡ 0 → ⊥) → r ≡ inText E f start n → r ≡ (inText E f start n && not (eqb n 0))
   filled-some r h e = rw (ne-eqb n 0 h) (e ∙ sym (and-true (inText E f start n)))
 
-pub name-is : (E : Edition) (f : List ℕ) (i s n : ℕ) (r : Bool) → s ≡ nameWord f i 2 → n ≡ nameWord f i 3
-    → r ≡ (inText E f s n && not (eqb n 0)) → r ≡ nameSound E f i
-unfolding nameSound
-name-is E f i s n r p q h = rw (← p, ← q) h
+-- what is asked of a text, by where it stands
+inside : Edition → List ℕ → Records → ℕ → Text → Bool
+inside E f s i Absent = true
+inside E f s i (Any a b) = inText E f (recordWord f s i a) (recordWord f s i b)
+inside E f s i (Filled a b) = inText E f (recordWord f s i a) (recordWord f s i b) && not (eqb (recordWord f s i b) 0)
 
--- a statement's text, by the kind k that was read
-module _ (E : Edition) (f : List ℕ) (i k : ℕ) (kind : k ≡ stmtKind f i) where
-  pub call-text : (s n : ℕ) (r : Bool) → k ≡ 3 → s ≡ stmtField f i 0 → n ≡ stmtField f i 1 → r ≡ inText E f s n → r ≡ stmtText E f i
-  unfolding stmtText
-  call-text s n r e p q h = rw (sym kind ∙ e, ← p, ← q) h
+-- and that is the definition's test
+inside-is : (E : Edition) (f : List ℕ) (s : Records) (i : ℕ) → inside E f s i (textOf f s i) ≡ textInside E f s i
+unfolding inside recordWord textOf textInside nameSound stmtText exprText
+inside-is E f Names i = refl
+inside-is E f Stmts i = go (eqb (stmtKind f i) 3) (eqb (stmtKind f i) 4) (eqb (stmtKind f i) 7)
+  where
+    go : (a b c : Bool) → inside E f Stmts i (cond a (Any 4 5) (cond b (Any 5 6) (cond c (Any 4 5) Absent)))
+        ≡ cond a (inText E f (stmtField f i 0) (stmtField f i 1)) (cond b (inText E f (stmtField f i 1) (stmtField f i 2))
+        (cond c (inText E f (stmtField f i 0) (stmtField f i 1)) true))
+    go true b c = refl
+    go false true c = refl
+    go false false true = refl
+    go false false false = refl
+inside-is E f Exprs i = go (eqb (exprWord f i 0) 3) (eqb (exprWord f i 0) 4) (eqb (exprWord f i 0) 6)
+  where
+    filled : Bool
+    filled = inText E f (exprWord f i 1) (exprWord f i 2) && not (eqb (exprWord f i 2) 0)
 
-  pub branch-text : (s n : ℕ) (r : Bool) → k ≡ 4 → s ≡ stmtField f i 1 → n ≡ stmtField f i 2 → r ≡ inText E f s n → r ≡ stmtText E f i
-  unfolding stmtText
-  branch-text s n r e p q h = rw (sym kind ∙ e, ← p, ← q) h
+    go : (a b c : Bool) → inside E f Exprs i (cond a (Filled 1 2) (cond b (Filled 1 2) (cond c (Any 1 2) Absent)))
+        ≡ cond a filled (cond b filled (cond c (inText E f (exprWord f i 1) (exprWord f i 2)) true))
+    go true b c = refl
+    go false true c = refl
+    go false false true = refl
+    go false false false = refl
 
-  pub other-text : (s n : ℕ) (r : Bool) → k ≡ 7 → s ≡ stmtField f i 0 → n ≡ stmtField f i 1 → r ≡ inText E f s n → r ≡ stmtText E f i
-  unfolding stmtText
-  other-text s n r e p q h = rw (sym kind ∙ e, ← p, ← q) h
+-- by what a match found of it
+module _ (E : Edition) (f : List ℕ) (s : Records) (i : ℕ) (t : Text) (is : t ≡ textOf f s i) where
+  pub absent-text : t ≡ Absent → true ≡ textInside E f s i
+  unfolding inside
+  absent-text e = ap (inside E f s i) (sym e ∙ is) ∙ inside-is E f s i
 
-  pub no-text : (k ≡ 3 → ⊥) → (k ≡ 4 → ⊥) → (k ≡ 7 → ⊥) → true ≡ stmtText E f i
-  unfolding stmtText
-  no-text a b c = rw (← kind, ne-eqb k 3 a, ne-eqb k 4 b, ne-eqb k 7 c)
+  module _ (a b start n : ℕ) (r : Bool) (p : start ≡ recordWord f s i a) (q : n ≡ recordWord f s i b) where
+    pub any-text : t ≡ Any a b → r ≡ inText E f start n → r ≡ textInside E f s i
+    unfolding inside
+    any-text e says = says ∙ ap₂ (inText E f) p q ∙ ap (inside E f s i) (sym e ∙ is) ∙ inside-is E f s i
 
--- an expression's, by its tag t
-module _ (E : Edition) (f : List ℕ) (i t : ℕ) (tag : t ≡ exprWord f i 0) where
-  pub bin-text : (s n : ℕ) (r : Bool) → t ≡ 3 → s ≡ exprWord f i 1 → n ≡ exprWord f i 2
-      → r ≡ (inText E f s n && not (eqb n 0)) → r ≡ exprText E f i
-  unfolding exprText
-  bin-text s n r e p q h = rw (sym tag ∙ e, ← p, ← q) h
-
-  pub un-text : (s n : ℕ) (r : Bool) → t ≡ 4 → s ≡ exprWord f i 1 → n ≡ exprWord f i 2
-      → r ≡ (inText E f s n && not (eqb n 0)) → r ≡ exprText E f i
-  unfolding exprText
-  un-text s n r e p q h = rw (sym tag ∙ e, ← p, ← q) h
-
-  pub opaque-text : (s n : ℕ) (r : Bool) → t ≡ 6 → s ≡ exprWord f i 1 → n ≡ exprWord f i 2 → r ≡ inText E f s n → r ≡ exprText E f i
-  unfolding exprText
-  opaque-text s n r e p q h = rw (sym tag ∙ e, ← p, ← q) h
-
-  pub plain-text : (t ≡ 3 → ⊥) → (t ≡ 4 → ⊥) → (t ≡ 6 → ⊥) → true ≡ exprText E f i
-  unfolding exprText
-  plain-text a b c = rw (← tag, ne-eqb t 3 a, ne-eqb t 4 b, ne-eqb t 6 c)
-
--- ---- records
-pub stmt-both : (E : Edition) (f : List ℕ) (i : ℕ) → also (stmtText E f i) (rootsInside f i) ≡ stmtSound E f i
-unfolding stmtSound also
-stmt-both E f i = refl
-
-pub expr-both : (E : Edition) (f : List ℕ) (i : ℕ) → also (exprText E f i) (childrenLower f i) ≡ exprSound E f i
-unfolding exprSound also
-expr-both E f i = refl
+    pub filled-text : t ≡ Filled a b → r ≡ (inText E f start n && not (eqb n 0)) → r ≡ textInside E f s i
+    unfolding inside
+    filled-text e says =
+        says ∙ ap₂ (λ (start n : ℕ). inText E f start n && not (eqb n 0)) p q ∙ ap (inside E f s i) (sym e ∙ is) ∙ inside-is E f s i
 
 -- ---- owners
 -- the table emptied, tallied over statements and expressions, looked at, and emptied again
@@ -149,30 +147,29 @@ module _ (f t t₁ t₂ t₃ t₄ : List ℕ) (n : ℕ) (r : Bool)
   once-answer = record { says = once-says; left = once-left }
 
 -- ---- the whole check: its tests in order
+abbrev texts : Edition → List ℕ → Bool
+texts E f =
+    also (all printable (textAt E f 0 (size f (text E)))) (also (allBelow (size f names) (textInside E f Names))
+    (also (allBelow (size f statements) (textInside E f Stmts)) (allBelow (size f expressions) (textInside E f Exprs))))
+
+in-order : (a b c d : Bool) → also a (also b (also c d)) ≡ (a && b && c && d)
+unfolding also
+in-order false b c d = refl
+in-order true false c d = refl
+in-order true true c d = refl
+
+pub texts-are : (E : Edition) (f : List ℕ) (t : Bool) → t ≡ texts E f → t ≡ textsSound E f
+unfolding textsSound textInside
+texts-are E f t e = e ∙ in-order _ _ _ _
+
 abbrev sound : Edition → List ℕ → Bool
 sound E f =
-    also (all printable (textAt E f 0 (size f (text E)))) (also (allBelow (size f names) (nameSound E f))
-    (also (allBelow (size f statements) (stmtSound E f)) (also (allBelow (size f expressions) (exprSound E f)) (ownedOnce f))))
+    also (textsSound E f) (also (allBelow (size f expressions) (childrenLower f))
+    (also (allBelow (size f statements) (rootsInside f)) (ownedOnce f)))
 
 sound-is : (E : Edition) (f : List ℕ) → not (sound E f) ≡ refused5 E f
-unfolding refused5 stmtSound exprSound also
-sound-is E f =
-    let a = all printable (textAt E f 0 (size f (text E))) in
-    let b = allBelow (size f names) (nameSound E f) in
-    sym (shuffle a b _ _ _ _ (ownedOnce f)
-    ∙ ap₂ (λ (s x : Bool). not (a && (b && (s && (x && ownedOnce f)))))
-    (all-both (stmtText E f) (rootsInside f) (size f statements)) (all-both (exprText E f) (childrenLower f) (size f expressions)))
-  where
-    shuffle : (a b c d l r g : Bool) → not (a && b && c && d && l && r && g) ≡ not (a && (b && ((c && r) && ((d && l) && g))))
-    shuffle false b c d l r g = refl
-    shuffle true false c d l r g = refl
-    shuffle true true false d l r g = refl
-    shuffle true true true false l true g = refl
-    shuffle true true true false l false g = refl
-    shuffle true true true true false true g = refl
-    shuffle true true true true false false g = refl
-    shuffle true true true true true true g = refl
-    shuffle true true true true true false g = refl
+unfolding refused5 textsSound
+sound-is E f = ap not (in-order _ _ _ _)
 
 pub refuse : (E : Edition) (f : List ℕ) → false ≡ sound E f → true ≡ refused5 E f
 refuse E f e = ap not e ∙ sound-is E f

@@ -1,15 +1,11 @@
 -- The expressions that a record names, by their number: what the loops go over.
-use mathlib.Core.Bool.{Bool, cond, _&&_}
+use mathlib.Core.Bool.{cond}
 use mathlib.Core.List.{List}
 use Prim.Native.Nat.{ℕ, _+_}
 use lib.Dec.{eqb}
 use Rattle.definition.specs.Codes.{kAssign, kStore, kFlags, kReturn, tBin, tUn, tLoad}
-use Rattle.definition.specs.Edition.{Edition}
 use Rattle.definition.specs.Contents.{itemWord, exprWord}
 use Rattle.definition.specs.Owners.{stmtKind, stmtField, exprItems}
-use Rattle.definition.specs.References.{nameSound, stmtText, exprText, childrenLower, rootsInside}
-use Rattle.references.specs.declared.references.Records.{Records}
-use Rattle.references.specs.declared.references.Records.the-variants.{Names, Exprs}
 
 -- how many children expression i has, and the k-th
 unfoldable pub childCount : List ℕ → ℕ → ℕ
@@ -38,15 +34,3 @@ rootAt f i first k =
     (cond (eqb kind kFlags) (stmtField f i (1 + k))
     (cond (eqb kind kReturn) (stmtField f i 1)
     (itemWord f (first + k) 0))))
-
--- a record's text and the expressions that it names, in one test
-unfoldable pub stmtSound : Edition → List ℕ → ℕ → Bool
-stmtSound E f i = stmtText E f i && rootsInside f i
-
-unfoldable pub exprSound : Edition → List ℕ → ℕ → Bool
-exprSound E f i = exprText E f i && childrenLower f i
-
--- by the section that the record is in
-abbrev pub recordSound : Edition → List ℕ → Records → ℕ → Bool
-recordSound E f Names = nameSound E f
-recordSound E f Exprs = exprSound E f

@@ -11,6 +11,7 @@ use records::contents::expr_word;
 use records::contents::name_word;
 use records::contents::offset_of;
 use records::contents::size_of;
+use records::contents::stmt_word;
 use records::edition::Edition;
 use records::owners::BIN;
 use records::owners::BRANCH;
@@ -19,7 +20,6 @@ use records::owners::OPAQUE;
 use records::owners::OTHER;
 use records::owners::UN;
 use records::owners::items_of;
-use records::owners::stmt_field;
 use records::owners::stmt_kind;
 ghost use mathlib.Core.Path.{_≡_};
 ghost use mathlib.Core.Bool.{true, not, _&&_};
@@ -32,9 +32,9 @@ ghost use Rattle.definition.specs.Contents.{size, text, textAt};
 ghost use Rattle.definition.specs.Lists.{all, allBelow};
 ghost use Rattle.definition.specs.Owners.{exprItems, firstItem};
 ghost use Rattle.definition.specs.Shape.{owned};
-ghost use Rattle.definition.specs.References.{inText, printable, nameSound, stmtText, exprText, childrenLower, rootsInside, refused5};
+ghost use Rattle.definition.specs.References.{inText, printable, childrenLower, rootsInside, refused5};
 ghost use Rattle.records.specs.Editions.{editionOf};
-ghost use Rattle.references.specs.Named.{stmtSound, exprSound, recordSound};
+ghost use Rattle.references.specs.Texts.{recordWord, textOf, textInside, textsSound};
 ghost use Rattle.references.specs.Tally.{Answered};
 
 // Whether n bytes from `start` on lie inside the text. The sum is of whole numbers.
@@ -89,44 +89,93 @@ fn text_printable(e: Edition, f: &[u8]) -> bool
     part_printable(f, offset_of(f, s) as usize, size_of(f, s) as usize)
 }
 
-fn name_sound(e: Edition, f: &[u8], i: u32) -> bool
-    ensures { λ r. ⌜ r ≡ nameSound (editionOf e) (now (f .entry)) i ⌝ }
-{
-    in_text_filled(e, f, name_word(f, i, 2), name_word(f, i, 3))
+// The sections whose records have texts.
+enum Records {
+    Names,
+    Stmts,
+    Exprs,
 }
 
-// A Call's target, a Branch's condition, an Other's text.
-fn stmt_text(e: Edition, f: &[u8], i: u32) -> bool
-    ensures { λ r. ⌜ r ≡ stmtText (editionOf e) (now (f .entry)) i ⌝ }
+fn record_word(f: &[u8], s: Records, i: u32, k: u32) -> u32
+    ensures { λ r. ⌜ r ≡ recordWord (now (f .entry)) s i k ⌝ }
 {
-    let k = stmt_kind(f, i);
-    if k == CALL {
-        return in_text(e, f, stmt_field(f, i, 0), stmt_field(f, i, 1));
+    match s {
+        Records::Names => name_word(f, i, k),
+        Records::Stmts => stmt_word(f, i, k),
+        Records::Exprs => expr_word(f, i, k),
     }
-    if k == BRANCH {
-        return in_text(e, f, stmt_field(f, i, 1), stmt_field(f, i, 2));
+}
+
+// The words of a record at which its text's start and length stand, and whether it may be empty.
+enum Text {
+    Absent,
+    Any(u32, u32),
+    Filled(u32, u32),
+}
+
+// A name; a Call's target, a Branch's condition, an Other's text; an operator, an Opaque's text.
+fn text_of(f: &[u8], s: Records, i: u32) -> Text
+    ensures { λ r. ⌜ r ≡ textOf (now (f .entry)) s i ⌝ }
+{
+    match s {
+        Records::Names => Text::Filled(2, 3),
+        Records::Stmts => match stmt_kind(f, i) {
+            CALL => Text::Any(4, 5),
+            BRANCH => Text::Any(5, 6),
+            OTHER => Text::Any(4, 5),
+            _ => Text::Absent,
+        },
+        Records::Exprs => match expr_word(f, i, 0) {
+            BIN => Text::Filled(1, 2),
+            UN => Text::Filled(1, 2),
+            OPAQUE => Text::Any(1, 2),
+            _ => Text::Absent,
+        },
     }
-    if k == OTHER {
-        return in_text(e, f, stmt_field(f, i, 0), stmt_field(f, i, 1));
+}
+
+fn text_inside(e: Edition, f: &[u8], s: Records, i: u32) -> bool
+    ensures { λ r. ⌜ r ≡ textInside (editionOf e) (now (f .entry)) s i ⌝ }
+{
+    match text_of(f, s, i) {
+        Text::Absent => true,
+        Text::Any(a, b) => in_text(e, f, record_word(f, s, i, a), record_word(f, s, i, b)),
+        Text::Filled(a, b) => in_text_filled(
+            e,
+            f,
+            record_word(f, s, i, a),
+            record_word(f, s, i, b),
+        ),
+    }
+}
+
+// The first n records of a section.
+fn texts_inside(e: Edition, f: &[u8], s: Records, n: u32) -> bool
+    ensures { λ r. ⌜ r ≡ allBelow n (textInside (editionOf e) (now (f .entry)) s) ⌝ }
+{
+    let mut i = 0;
+    while i < n {
+        if !text_inside(e, f, s, i) {
+            return false;
+        }
+        i += 1;
     }
     true
 }
 
-// An operator and an Opaque's text.
-fn expr_text(e: Edition, f: &[u8], i: u32) -> bool
-    ensures { λ r. ⌜ r ≡ exprText (editionOf e) (now (f .entry)) i ⌝ }
+fn texts_sound(e: Edition, f: &[u8]) -> bool
+    ensures { λ r. ⌜ r ≡ textsSound (editionOf e) (now (f .entry)) ⌝ }
 {
-    let t = expr_word(f, i, 0);
-    if t == BIN {
-        return in_text_filled(e, f, expr_word(f, i, 1), expr_word(f, i, 2));
+    if !text_printable(e, f) {
+        return false;
     }
-    if t == UN {
-        return in_text_filled(e, f, expr_word(f, i, 1), expr_word(f, i, 2));
+    if !texts_inside(e, f, Records::Names, size_of(f, NAMES)) {
+        return false;
     }
-    if t == OPAQUE {
-        return in_text(e, f, expr_word(f, i, 1), expr_word(f, i, 2));
+    if !texts_inside(e, f, Records::Stmts, size_of(f, STATEMENTS)) {
+        return false;
     }
-    true
+    texts_inside(e, f, Records::Exprs, size_of(f, EXPRESSIONS))
 }
 
 fn children_lower(f: &[u8], i: u32) -> bool
@@ -161,48 +210,13 @@ fn roots_inside(f: &[u8], i: u32, first: u32) -> bool
     true
 }
 
-fn stmt_sound(e: Edition, f: &[u8], i: u32, first: u32) -> bool
-    requires { ⌜ first ≡ firstItem (now f) i ⌝ }
-    requires { ⌜ first + exprItems (now f) i ≤ 4294967296 ⌝ }
-    ensures { λ r. ⌜ r ≡ stmtSound (editionOf e) (now (f .entry)) i ⌝ }
+fn all_children_lower(f: &[u8]) -> bool
+    ensures { λ r. ⌜ r ≡ allBelow (size (now (f .entry)) expressions) (childrenLower (now (f .entry))) ⌝ }
 {
-    if !stmt_text(e, f, i) {
-        return false;
-    }
-    roots_inside(f, i, first)
-}
-
-fn expr_sound(e: Edition, f: &[u8], i: u32) -> bool
-    ensures { λ r. ⌜ r ≡ exprSound (editionOf e) (now (f .entry)) i ⌝ }
-{
-    if !expr_text(e, f, i) {
-        return false;
-    }
-    children_lower(f, i)
-}
-
-// The sections whose records are looked at one by one, with nothing carried along.
-enum Records {
-    Names,
-    Exprs,
-}
-
-fn record_sound(e: Edition, f: &[u8], s: Records, i: u32) -> bool
-    ensures { λ r. ⌜ r ≡ recordSound (editionOf e) (now (f .entry)) s i ⌝ }
-{
-    match s {
-        Records::Names => name_sound(e, f, i),
-        Records::Exprs => expr_sound(e, f, i),
-    }
-}
-
-// The first n records of a section.
-fn records_sound(e: Edition, f: &[u8], s: Records, n: u32) -> bool
-    ensures { λ r. ⌜ r ≡ allBelow n (recordSound (editionOf e) (now (f .entry)) s) ⌝ }
-{
+    let n = size_of(f, EXPRESSIONS);
     let mut i = 0;
     while i < n {
-        if !record_sound(e, f, s, i) {
+        if !children_lower(f, i) {
             return false;
         }
         i += 1;
@@ -211,15 +225,15 @@ fn records_sound(e: Edition, f: &[u8], s: Records, n: u32) -> bool
 }
 
 // The first item of each statement is carried along, so that no sum is made twice.
-fn stmts_sound(e: Edition, f: &[u8]) -> bool
+fn all_roots_inside(f: &[u8]) -> bool
     requires { ⌜ firstItem (now f) (size (now f) statements) < 4294967296 ⌝ }
-    ensures { λ r. ⌜ r ≡ allBelow (size (now (f .entry)) statements) (stmtSound (editionOf e) (now (f .entry))) ⌝ }
+    ensures { λ r. ⌜ r ≡ allBelow (size (now (f .entry)) statements) (rootsInside (now (f .entry))) ⌝ }
 {
     let n = size_of(f, STATEMENTS);
     let mut first: u32 = 0;
     let mut i = 0;
     while i < n {
-        if !stmt_sound(e, f, i, first) {
+        if !roots_inside(f, i, first) {
             return false;
         }
         first += items_of(f, i) as u32;
@@ -235,16 +249,13 @@ pub fn refused5(e: Edition, f: &[u8], owners: &mut [u32]) -> bool
     ensures { λ r. ⌜ Answered (refused5 (editionOf e) (now (f .entry))) r (now (owners .entry)) (now (owners .exit)) ⌝ }
 {
     let once = owned_once(owners, f);
-    if !text_printable(e, f) {
+    if !texts_sound(e, f) {
         return true;
     }
-    if !records_sound(e, f, Records::Names, size_of(f, NAMES)) {
+    if !all_children_lower(f) {
         return true;
     }
-    if !stmts_sound(e, f) {
-        return true;
-    }
-    if !records_sound(e, f, Records::Exprs, size_of(f, EXPRESSIONS)) {
+    if !all_roots_inside(f) {
         return true;
     }
     !once

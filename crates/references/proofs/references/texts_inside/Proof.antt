@@ -6,12 +6,12 @@ use Prim.Native.Nat.{_≤_, _-_}
 use Rattle.definition.specs.Lists.{allBelow}
 use Rattle.records.specs.Editions.{editionOf}
 use Rattle.records.proofs.Below.{all-start, all-turn, all-fail, all-done}
-use Rattle.references.specs.Named.{recordSound}
-use Rattle.references.proofs.references.records_sound.Statement.{statement}
-use Rattle.references.proofs.references.records_sound.Tie as tie
+use Rattle.references.specs.Texts.{textInside}
+use Rattle.references.proofs.references.texts_inside.Statement.{statement}
+use Rattle.references.proofs.references.texts_inside.Tie as tie
 
 abbrev Inv-loop : tie.InvT-loop
-Inv-loop e f s n i₀ i = (allBelow i (recordSound (editionOf e) f s) ≡ true) × (i ≤ n)
+Inv-loop e f s n i₀ i = (allBelow i (textInside (editionOf e) f s) ≡ true) × (i ≤ n)
 
 abbrev μ-loop : tie.MeasureT-loop
 μ-loop e f s n i₀ i = n - i
@@ -19,11 +19,11 @@ abbrev μ-loop : tie.MeasureT-loop
 loop-holds : tie.Need-loop-holds Inv-loop μ-loop
 loop-holds c = (all-start _, omega arith)
 
-record-sound-requires : tie.Need-record-sound-requires Inv-loop μ-loop
-record-sound-requires c κs = search needs
+text-inside-requires : tie.Need-text-inside-requires Inv-loop μ-loop
+text-inside-requires c κs = search needs
 
 returns : tie.Need-returns Inv-loop μ-loop
-returns c = all-fail _ refl (c .before .record-sound .ensures) (c .before .before .loop-test .taken) (c .if1 .taken)
+returns c = all-fail _ refl (c .before .text-inside .ensures) (c .before .before .loop-test .taken) (c .if1 .taken)
 
 add-i : tie.Need-add-i Inv-loop μ-loop
 add-i c = omega arith
@@ -32,19 +32,19 @@ loop-less : tie.Need-loop-less Inv-loop μ-loop
 loop-less c = omega arith
 
 loop-again : tie.Need-loop-again Inv-loop μ-loop
-loop-again c = (all-turn _ (c .before .record-sound .ensures) (c .before .before .before .loop .inv .0) (c .if1 .left), omega arith)
+loop-again c = (all-turn _ (c .before .text-inside .ensures) (c .before .before .before .loop .inv .0) (c .if1 .left), omega arith)
 
 returns-2 : tie.Need-returns-2 Inv-loop μ-loop
 returns-2 c = all-done _ refl (c .before .loop .inv .0) (omega arith)
 
-pub records-sound-spec : {M : Type 1} → statement M
-records-sound-spec =
+pub texts-inside-spec : {M : Type 1} → statement M
+texts-inside-spec =
     tie.close
     (tie.spec
     Inv-loop
     μ-loop
     loop-holds
-    record-sound-requires
+    text-inside-requires
     returns
     add-i
     loop-less
