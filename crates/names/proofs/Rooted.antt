@@ -23,8 +23,7 @@ use Rattle.definition.proofs.ListLaws.{Each, end, _▸_, each-map}
 use Rattle.records.proofs.Ranges.{gather-only}
 use Rattle.values.specs.Keys.{placesOf}
 use Rattle.reads.proofs.Statements.{map-map, phis-are}
-use Rattle.names.proofs.Tied.{Mentions}
-use Rattle.names.proofs.Mentioned.{each-run, each-runs, phi-named, input-named}
+use Rattle.names.proofs.Mentioned.{Mentions, each-run, each-runs, phi-named, input-named}
 
 -- ---- a property of the values joined
 module _ (P : Value → Type 0) where
