@@ -18,12 +18,12 @@ use Rattle.definition.specs.Tokens.{Line, symbol, line}
 use Rattle.definition.specs.Lower.{gotoTokens}
 use Rattle.definition.specs.Blocks.{lowering, closing, labelLine}
 use Rattle.definition.specs.Listing.{padded}
+use Rattle.records.proofs.Ranges.{map-map}
 use Rattle.ssa.specs.Block.{blockRecord}
 use Rattle.ssa.specs.View.{viewDestination}
 use Rattle.ssa.specs.declared.block.Block.{Block as BlockS}
 use Rattle.values.specs.Tables.{at}
 use Rattle.values.proofs.Ranges.{at-left, map-length, at-below}
-use Rattle.reads.proofs.Statements.{map-map}
 use Rattle.marks.specs.Labels.{startAt, nextAt, Labels}
 use Rattle.room.specs.declared.out.Out.{Out}
 use Rattle.room.specs.declared.out.At.the-variants.{Nowhere, Address}

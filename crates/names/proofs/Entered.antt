@@ -23,19 +23,18 @@ use Rattle.definition.specs.Inline.{live}
 use Rattle.definition.specs.Names.{byConvention, entryReads, upToLast, params}
 use Rattle.definition.proofs.Bools.{by-test, by-cond, or-right}
 use Rattle.definition.proofs.ListLaws.{Each, end, _▸_}
-use Rattle.records.proofs.Ranges.{range-last, map-gather}
+use Rattle.records.proofs.Ranges.{range-last, map-gather, gather-same}
+use Rattle.records.proofs.Parts.{stmts-are}
 use Rattle.values.specs.Tables.{at, numbered, table}
 use Rattle.values.proofs.Tables.{table-same, eqv-swap, zeros-are}
 use Rattle.values.proofs.Placed.{keyed-length}
 use Rattle.values.proofs.Ranges.{map-length}
-use Rattle.reads.proofs.Statements.{gather-same, stmts-are}
 use Rattle.reads.proofs.ReadAtAll.{bit-so}
 use Rattle.names.specs.Codes.{coded}
-use Rattle.names.specs.Walk.{Spot, useSpots, entrySpots, ticked, upTo}
+use Rattle.names.specs.Spots.{Spot, useSpots, entrySpots, ticked, upTo}
 use Rattle.names.specs.Given.{Numbered, EntryRead, entryTable}
-use Rattle.names.proofs.Tied.{Mentions, coded-read, coded-write}
-use Rattle.names.proofs.Spots.{valuesOf, use-values}
-use Rattle.names.proofs.Mentioned.{each-runs, arg-named, uses-right}
+use Rattle.names.proofs.Mentioned.{Mentions, coded-read, coded-write, each-runs, arg-named, uses-right}
+use Rattle.names.proofs.Reading.{valuesOf, use-values}
 use Rattle.names.proofs.Params.{isRead}
 
 -- ---- what is ticked

@@ -1,15 +1,9 @@
 pub mod Meeting
-pub mod Walking
-pub mod Small
+pub mod Mentioned
 pub mod Reading
-pub mod Standing
 pub mod Ticking
 pub mod Params
 pub mod Texts
-pub mod Tied
-pub mod Spots
-pub mod Mentioned
 pub mod Rooted
 pub mod Entered
-pub mod Named
 pub mod Unique

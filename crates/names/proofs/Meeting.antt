@@ -8,7 +8,7 @@ use lib.ListN.{set}
 use borrow.Author.Tests.{eq-eqb, ne-eqb, lt-ltb, le-ltb}
 use Rattle.definition.specs.Values.{value}
 use Rattle.values.specs.Tables.{at}
-use Rattle.names.specs.Walk.{State, spot, known, state, noted, met, named}
+use Rattle.names.specs.Spots.{State, spot, known, state, noted, met, named}
 
 -- ---- is a value the root of its own class
 pub own-not : (ver r n : ℕ) → (ver ≡ 0 → ⊥) → false ≡ (eqb ver 0 && eqb r n)

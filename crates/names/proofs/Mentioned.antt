@@ -1,34 +1,53 @@
--- Each spot's place names its value: the places of a section stand in its order, and a Use node that a statement reads is an expression of the file.
-use mathlib.Core.Path.{_≡_, subst, _∙_}
-use mathlib.Core.Bool.{true, _&&_, _||_}
+-- A place of the file names a value: there the tables are read and written at the value's number. The places of a section stand in its order, and a
+-- Use node that a statement reads is an expression of the file.
+use mathlib.Core.Path.{_≡_, refl, sym, ap, subst, _∙_}
+use mathlib.Core.Bool.{true, cond}
 use mathlib.Core.List.{List, map}
 use Prim.Native.Nat.{ℕ, zero, suc, _+_, _≤_, _<_}
 use native.Mathlib.Omega.{arith}
-use lib.Dec.{eqb}
-use lib.ListN.{length, getD}
+use lib.ListN.{length, getD, set}
 use mir.Syntax.{w8}
 use mir.Val.{Fits}
-use borrow.Author.Tests.{eqb-true}
 use Rattle.words.proofs.Laws.{word-small}
-use Rattle.definition.specs.Codes.{kAssign, kCall}
-use Rattle.definition.specs.Edition.{args, blocks, phis, phiWords, inputs, inputWords, statements, stmtWords, lists, itemWords, expressions, exprWords}
+use Rattle.definition.specs.Edition.{args, phis, phiWords, inputs, inputWords, expressions, exprWords}
 use Rattle.definition.specs.Lists.{gather, range}
 use Rattle.definition.specs.Contents.{size, place, argAt, phiWord, inputAt}
-use Rattle.definition.specs.Owners.{stmtKind, stmtField, exprItems, valueItems, blockPhis, blockStmts, phiInputs, firstPhi, firstStmt, firstInput, firstItem}
+use Rattle.definition.specs.Owners.{phiInputs, firstInput}
 use Rattle.definition.specs.Shape.{owned}
-use Rattle.definition.specs.Values.{Value, value, RSP}
-use Rattle.definition.specs.Meaning.{phiValue, assigned, callReturns}
-use Rattle.definition.specs.Read.{marked}
-use Rattle.definition.proofs.Bools.{by-cond, both-true}
+use Rattle.definition.specs.Values.{Value, value, eqv}
+use Rattle.definition.specs.Meaning.{phiValue}
 use Rattle.definition.proofs.ListLaws.{Each, end, _▸_, each-append}
-use Rattle.defined.specs.Defined.{itemValue}
-use Rattle.values.specs.Keys.{argKey, phiKey, inputKey, stmtKey, itemKey, exprKey, placesOf, keyed}
-use Rattle.values.proofs.Placed.{at-arg, at-phi, at-input, at-stmt, at-item, at-expr, keyed-length, arg-here, phi-here, input-here, stmt-here, item-here, expr-here}
+use Rattle.values.specs.Keys.{keyOf, argKey, phiKey, inputKey, exprKey, placesOf, keyed}
+use Rattle.values.specs.Tables.{at, numberOf, numbered, table}
+use Rattle.values.proofs.Tables.{numbered-at, table-same, table-read, table-write}
+use Rattle.values.proofs.Placed.{at-arg, at-phi, at-input, at-expr, keyed-length, arg-here, phi-here, input-here, expr-here}
 use Rattle.reads.specs.Uses.{useValue}
 use Rattle.reads.proofs.Nodes.{IsUse, stmt-nodes}
-use Rattle.names.specs.Walk.{Spot, spot, inputSpot, phiSpots, fieldSpots, itemSpot, itemSpots, useSpot, useSpots, stmtSpots, blockSpots, spots}
-use Rattle.names.proofs.Tied.{Mentions}
-use Rattle.names.proofs.Small.{parts-below}
+use Rattle.names.specs.Codes.{coded}
+use Rattle.names.specs.Spots.{Spot, spot, useSpot, useSpots}
+
+-- place p names v
+pub record Mentions (f : List ℕ) (n p : ℕ) (v : Value) : Type 0 where
+  pub here : p < length (keyed f n)
+  pub is : at (keyed f n) p ≡ keyOf v
+  pub small : v .ver < 4294967296
+
+-- ---- tables at a place
+module _ (f : List ℕ) (n p : ℕ) (v : Value) (by : Mentions f n p v) where
+  pub coded-read : (g : Value → ℕ) → at (table f n g) (at (numbered f n) p) ≡ g v
+  coded-read g = table-read f n g p (v .reg) (v .ver) (by .here) (by .is) (by .small)
+
+  pub coded-write : (g : Value → ℕ) (x : ℕ) → set (table f n g) (at (numbered f n) p) x ≡ table f n (coded v x g)
+  unfolding coded
+  coded-write g x =
+      table-write f n g p (v .reg) (v .ver) (by .here) (by .is) (by .small) x
+      ∙ table-same f n (λ w. cond (eqv v w) x (g w)) (coded v x g) (λ w. refl)
+
+-- the number of a class's root
+pub root-number : (f : List ℕ) (n : ℕ) (root : Value → Value) (p q : ℕ) (v : Value) → Mentions f n p v → Mentions f n q (root v)
+    → at (table f n (λ w. numberOf (keyed f n) (keyOf (root w)))) (at (numbered f n) p) ≡ at (numbered f n) q
+root-number f n root p q v by to =
+    coded-read f n p v by (λ w. numberOf (keyed f n) (keyOf (root w))) ∙ sym (numbered-at f n q (to .here) ∙ ap (numberOf (keyed f n)) (to .is))
 
 -- ---- every element of a run
 module _ {A : Type 0} (P : A → Type 0) where
@@ -50,7 +69,7 @@ module _ {A : Type 0} (P : A → Type 0) where
 
 -- ---- places that name values
 module _ (f : List ℕ) (bytes : (k : ℕ) → Fits w8 (getD f k 0)) (own : owned f ≡ true) (n : ℕ) (room : placesOf f .total ≤ n) where
-  inside : (p : ℕ) → p < placesOf f .total → p < length (keyed f n)
+  pub inside : (p : ℕ) → p < placesOf f .total → p < length (keyed f n)
   inside p h = omega (arith, keyed-length f n own room)
 
   pub arg-named : (i : ℕ) → i < size f args → Mentions f n i (value (argAt f i) 0)
@@ -69,14 +88,6 @@ module _ (f : List ℕ) (bytes : (k : ℕ) → Fits w8 (getD f k 0)) (own : owne
     small = word-small f bytes (place f inputs inputWords (firstInput f i + j) 0);
   }
 
-  item-named : (i j : ℕ) → i < size f statements → j < valueItems f i → Mentions f n (placesOf f .items + (firstItem f i + exprItems f i + j)) (itemValue f (firstItem f i + exprItems f i + j))
-  unfolding itemKey itemValue
-  item-named i j h k = record {
-    here = inside (placesOf f .items + (firstItem f i + exprItems f i + j)) (item-here f own i j h k);
-    is = at-item f n own i j h k;
-    small = word-small f bytes (place f lists itemWords (firstItem f i + exprItems f i + j) 1);
-  }
-
   use-named : (m : ℕ) → IsUse f m → Mentions f n (placesOf f .exprs + m) (useValue f m)
   unfolding exprKey useValue
   use-named m u = record {
@@ -85,52 +96,10 @@ module _ (f : List ℕ) (bytes : (k : ℕ) → Fits w8 (getD f k 0)) (own : owne
     small = word-small f bytes (place f expressions exprWords m 2);
   }
 
-  -- ---- each spot
+  -- ---- each spot that is read
   abbrev Right : Spot → Type 0
   Right x = Mentions f n (x .place) (x .of)
-
-  phi-right : (i : ℕ) → i < size f phis → Each Right (phiSpots f i)
-  unfolding phiSpots inputSpot
-  phi-right i h =
-      by-cond (Each Right) (eqb (phiWord f i 0) RSP || eqb (phiWord f i 2) 1) (λ e. end)
-      (λ e. phi-named i h ▸ each-run Right (λ (k : ℕ). spot (placesOf f .inputs + k) (value (phiWord f i 0) (inputAt f k))) (firstInput f i) (phiInputs f i) (λ j k. input-named i j h k))
-
-  field-right : (i : ℕ) → i < size f statements → Each Right (fieldSpots f i)
-  unfolding fieldSpots assigned callReturns stmtKey
-  field-right i h =
-      each-append
-      (by-cond (λ (l : List Value). Each Right (map (spot (placesOf f .stmts + i)) l)) (eqb (stmtKind f i) kAssign)
-      (λ e. (record {
-        here = inside (placesOf f .stmts + i) (stmt-here f i h);
-        is = at-stmt f n own i h ∙ rw e;
-        small = word-small f bytes (place f statements stmtWords i 5);
-      }) ▸ end) (λ e. end))
-      (by-cond (λ (l : List Value). Each Right (map (spot (placesOf f .stmts + i)) l)) (eqb (stmtKind f i) kCall && eqb (stmtField f i 3) 1)
-      (λ e. (record {
-        here = inside (placesOf f .stmts + i) (stmt-here f i h);
-        is = at-stmt f n own i h ∙ rw (eqb-true (stmtKind f i) kCall (both-true (eqb (stmtKind f i) kCall) (eqb (stmtField f i 3) 1) e .0), both-true (eqb (stmtKind f i) kCall) (eqb (stmtField f i 3) 1) e .1);
-        small = word-small f bytes (place f statements stmtWords i 9);
-      }) ▸ end) (λ e. end))
 
   pub uses-right : (i : ℕ) → Each Right (useSpots f i)
   unfolding useSpots useSpot
   uses-right i = each-from Right (λ (m : ℕ). spot (placesOf f .exprs + m) (useValue f m)) use-named (stmt-nodes f i)
-
-  stmt-right : (i : ℕ) → i < size f statements → Each Right (stmtSpots f i)
-  unfolding stmtSpots itemSpots itemSpot
-  stmt-right i h =
-      by-cond (Each Right) (marked f i 1) (λ e. end)
-      (λ e. each-append (field-right i h)
-      (each-append (each-run Right (λ (k : ℕ). spot (placesOf f .items + k) (itemValue f k)) (firstItem f i + exprItems f i) (valueItems f i) (λ j k. item-named i j h k))
-      (uses-right i)))
-
-  block-right : (b : ℕ) → b < size f blocks → Each Right (blockSpots f b)
-  unfolding blockSpots
-  block-right b h =
-      let below = parts-below f own b h in
-      each-append (each-runs Right (phiSpots f) (firstPhi f b) (blockPhis f b) (λ i k. phi-right i (omega arith)))
-      (each-runs Right (stmtSpots f) (firstStmt f b) (blockStmts f b) (λ i k. stmt-right i (omega arith)))
-
-  pub all-right : Each Right (spots f)
-  unfolding spots
-  all-right = each-runs Right (blockSpots f) 0 (size f blocks) (λ b h. block-right b (omega arith))

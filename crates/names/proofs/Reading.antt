@@ -1,19 +1,26 @@
--- The flat reads of a statement: from where its nodes begin up to where the next one's do, `order` has what the statement reads.
+-- The reads of a statement: from where its nodes begin up to where the next one's do, `order` has what the statement reads, and its spots have the
+-- values that the definition says it reads.
 use mathlib.Core.Path.{_≡_, refl, sym, ap, ap₂, _∙_}
 use mathlib.Core.List.{List, [], _∷_, map}
 use Prim.Native.Nat.{ℕ, suc, _+_, _-_, _≤_, _<_}
 use native.Mathlib.Omega.{arith}
 use lib.ListN.{length, replicate}
-use Rattle.definition.specs.Edition.{statements}
+use Rattle.definition.specs.Edition.{Edition, statements}
 use Rattle.definition.specs.Lists.{range, sumBelow}
 use Rattle.definition.specs.Contents.{size}
+use Rattle.definition.specs.Values.{Value}
+use Rattle.definition.specs.Ssa.{uses}
+use Rattle.definition.specs.Read.{allTrees, kindAt}
 use Rattle.definition.specs.Listing.{padded}
 use Rattle.records.proofs.Below.{sum-turn, sum-le}
+use Rattle.records.proofs.Ranges.{map-map}
+use Rattle.values.specs.Keys.{placesOf}
 use Rattle.values.specs.Tables.{at}
 use Rattle.values.proofs.Ranges.{at-left, at-below, at-gather, map-length, gather-length}
-use Rattle.reads.specs.Uses.{stmtUses, useOrder, useStart, useStarts}
+use Rattle.reads.specs.Uses.{stmtUses, useValue, useOrder, useStart, useStarts}
 use Rattle.reads.specs.Orders.{Ordered}
-use Rattle.names.specs.Walk.{Spot, useSpot, useSpots}
+use Rattle.reads.proofs.Trees.{uses-are}
+use Rattle.names.specs.Spots.{Spot, spot, useSpot, useSpots}
 
 -- a run of a list that has l from x on
 run-is : (g : ℕ → Spot) (h : ℕ → ℕ) (l : List ℕ) (x : ℕ) → ((j : ℕ) → j < length l → h (x + j) ≡ at l j) → map (λ k. g (h k)) (range x (length l)) ≡ map g l
@@ -56,3 +63,11 @@ module _ (f order starts : List ℕ) (m n : ℕ) (flat : Ordered f m n order sta
       let s : x ≡ useStart f i = a ∙ p in
       ap (λ (c : ℕ). map (λ k. useSpot f (at order k)) (range x c)) e
       ∙ run-is (useSpot f) (at order) (stmtUses f i) x (λ j k. ap (λ (c : ℕ). at order (c + j)) s ∙ node-at i j h k)
+
+-- ---- the values of spots
+abbrev pub valuesOf : List Spot → List Value
+valuesOf xs = map (λ (x : Spot). x .of) xs
+
+pub use-values : (f : List ℕ) (E : Edition) (i : ℕ) → valuesOf (useSpots f i) ≡ uses (kindAt E f (allTrees E f) i)
+unfolding useSpots useSpot
+use-values f E i = map-map (λ (x : Spot). x .of) (λ (n : ℕ). spot (placesOf f .exprs + n) (useValue f n)) (stmtUses f i) ∙ uses-are E f i

@@ -20,11 +20,10 @@ use Rattle.definition.specs.Read.{phiAt, read}
 use Rattle.definition.specs.Classes.{Member, Pair, find, pairs, relabel, union, unions, alone, classes}
 use Rattle.definition.proofs.Bools.{by-cond}
 use Rattle.definition.proofs.ListLaws.{Each, end, _▸_, each-map}
-use Rattle.records.proofs.Ranges.{gather-only}
+use Rattle.records.proofs.Ranges.{gather-only, map-map}
+use Rattle.records.proofs.Parts.{phis-are}
 use Rattle.values.specs.Keys.{placesOf}
-use Rattle.reads.proofs.Statements.{map-map, phis-are}
-use Rattle.names.proofs.Tied.{Mentions}
-use Rattle.names.proofs.Mentioned.{each-run, each-runs, phi-named, input-named}
+use Rattle.names.proofs.Mentioned.{Mentions, each-run, each-runs, phi-named, input-named}
 
 -- ---- a property of the values joined
 module _ (P : Value → Type 0) where

@@ -13,7 +13,7 @@ use Rattle.definition.specs.Read.{marked}
 use Rattle.values.specs.Keys.{placesOf}
 use Rattle.values.specs.Tables.{at}
 use Rattle.reads.specs.Counts.{placed, visit, slots, between}
-use Rattle.names.specs.Walk.{Spot, useSpot, useSpots, entrySpots, ticked}
+use Rattle.names.specs.Spots.{Spot, useSpot, useSpots, entrySpots, ticked}
 
 module _ (ns : List ℕ) where
   tick-append : (t : List ℕ) (xs ys : List Spot) → ticked ns t (xs ++ ys) ≡ ticked ns (ticked ns t xs) ys

@@ -1,3 +1,3 @@
 pub mod Codes
-pub mod Walk
+pub mod Spots
 pub mod Given

@@ -21,7 +21,7 @@ ghost use Rattle.definition.specs.Owners.{stmtKind};
 ghost use Rattle.definition.specs.Read.{marked};
 ghost use Rattle.values.specs.Keys.{placesOf};
 ghost use Rattle.reads.specs.Orders.{Ordered};
-ghost use Rattle.names.specs.Walk.{entrySpots, ticked};
+ghost use Rattle.names.specs.Spots.{entrySpots, ticked};
 ghost use Rattle.names.specs.Given.{Numbered, Counted, EntryRead};
 
 // Does statement i make no parameter: it is dead, or reads every argument register by convention.

@@ -8,7 +8,7 @@ ghost use mathlib.Core.Bool.{_&&_};
 ghost use lib.Dec.{eqb};
 ghost use lib.ListN.{set};
 ghost use Rattle.defined.specs.Defined.{valueOf};
-ghost use Rattle.names.specs.Walk.{spot, known, state, met, named};
+ghost use Rattle.names.specs.Spots.{spot, known, state, met, named};
 
 // A code has 32 bits; no function has so many locals.
 const LOCALS: u32 = 2147483648;

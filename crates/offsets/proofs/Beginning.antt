@@ -18,7 +18,7 @@ use Rattle.values.specs.Keys.{keyOf, valueOf, keyed}
 use Rattle.values.specs.Tables.{at, firstOf, numberOf, numbered, entry, tabled, table}
 use Rattle.values.proofs.Ranges.{at-below}
 use Rattle.values.proofs.Placed.{keyed-length}
-use Rattle.offsets.specs.Ground.{Ground}
+use Rattle.sums.specs.Ground.{Ground}
 use Rattle.values.proofs.Tables.{first-le, key-not-0, encode, numbered-at, table-write, first-is, same-at, tabled-length, zeros-are}
 
 -- ---- the loop for the first place

@@ -2,11 +2,10 @@
 use mathlib.Core.Path.{_≡_, sym, ap, _∙_}
 use mathlib.Core.Bool.{Bool, true, false, cond, true≢false}
 use mathlib.Core.List.{List}
-use Prim.Native.Nat.{ℕ, suc, _+_, _<_}
+use Prim.Native.Nat.{ℕ, _+_, _<_}
 use native.Mathlib.Omega.{arith}
-use lib.ListN.{replicate, length-replicate}
-use Rattle.definition.specs.Edition.{Edition, Section, edition1, blocks}
-use Rattle.definition.specs.Contents.{size, text}
+use Rattle.definition.specs.Edition.{Edition, blocks}
+use Rattle.definition.specs.Contents.{size}
 use Rattle.definition.specs.Read.{read}
 use Rattle.definition.specs.Offsets.{Known, look, Def, round, rounds, closure, offsets}
 use Rattle.values.specs.Tables.{table}
@@ -14,14 +13,6 @@ use Rattle.offsets.specs.Defs.{turnOf, mine, defsBelow}
 use Rattle.offsets.specs.Ran.{zeros, Ran}
 use Rattle.offsets.proofs.Closing.{rounds-last, stopped}
 use Rattle.offsets.proofs.Beginning.{entered}
-
--- every section is the text of some edition
-pub some-edition : (t : ℕ) → (E : Edition) × (text E ≡ t)
-unfolding text edition1
-some-edition t =
-    let s : Section = record { words = 0; most = 0 } in
-    let l = length-replicate {A = Section} (suc t) s in
-    (record { number = 1; sections = replicate (suc t) s; most = 0; lowered = edition1 .lowered; lent = edition1 .lent }, omega arith)
 
 -- what the table is after some rounds over ds from k on
 pub record Closes (f : List ℕ) (n : ℕ) (ds : List Def) (k : List Known) (tab : List ℕ) (changed : Bool) : Type 0 where

@@ -1,8 +1,5 @@
-pub mod Signed
 pub mod Closing
-pub mod Trees
-pub mod Nodes
-pub mod Naming
+pub mod Agreeing
 pub mod Running
 pub mod Stepping
 pub mod Walking

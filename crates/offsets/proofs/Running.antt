@@ -19,11 +19,11 @@ use Rattle.records.proofs.Ranges.{range-parts, gather-append}
 use Rattle.values.specs.declared.places.Places.{Places}
 use Rattle.values.specs.Tables.{at, numbered, table}
 use Rattle.values.proofs.Tables.{table-write}
-use Rattle.offsets.specs.Ground.{Ground}
+use Rattle.sums.specs.Ground.{Ground}
 use Rattle.offsets.specs.Defs.{turnOf, mine, phiDefs, stmtDefs, defsBelow}
 use Rattle.offsets.specs.Ran.{Pass, passOf, learnt, zeros, Ran}
 use Rattle.offsets.proofs.Closing.{known, learn-none, learn-old, learn-new, round-append}
-use Rattle.offsets.proofs.Naming.{Names, known-at, number-low}
+use Rattle.sums.proofs.Naming.{Names, known-at, number-low}
 
 -- ---- zeros
 zeros-set : (l : List ℕ) (i x : ℕ) → i < length l → at l i ≡ 0 → (x ≡ 0 → ⊥) → zeros (set l i x) + 1 ≡ zeros l

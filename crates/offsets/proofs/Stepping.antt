@@ -20,11 +20,12 @@ use Rattle.definition.specs.Offsets.{Known, look, stackOff, Def, byPhi, byExpr,
 use Rattle.definition.proofs.Bools.{by-cond}
 use Rattle.values.specs.declared.places.Places.{Places}
 use Rattle.values.specs.Tables.{at, table}
-use Rattle.offsets.specs.Ground.{Ground}
-use Rattle.offsets.specs.Address.{valueAt, agreedBy}
+use Rattle.sums.specs.Ground.{Ground}
+use Rattle.sums.specs.Address.{valueAt}
+use Rattle.offsets.specs.Agreed.{agreedBy}
 use Rattle.offsets.specs.Defs.{turnOf, mine, phiDefs, stmtDefs}
 use Rattle.offsets.specs.Ran.{passOf, learnt, Ran}
-use Rattle.offsets.proofs.Naming.{phi-names, assign-names, phi-agreed}
+use Rattle.offsets.proofs.Agreeing.{phi-names, assign-names, phi-agreed}
 use Rattle.offsets.proofs.Running.{ran-none, ran-same, learn-ran, mine-one, mine-other, mine-none}
 
 -- ---- whose turn it is

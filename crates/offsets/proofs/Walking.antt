@@ -17,7 +17,7 @@ use Rattle.definition.specs.Shape.{owned}
 use Rattle.definition.proofs.Bools.{both-true}
 use Rattle.records.proofs.Below.{sum-start, sum-le, sum-turn}
 use Rattle.records.proofs.Items.{size-small}
-use Rattle.values.proofs.Placed.{owned-inputs}
+use Rattle.records.proofs.Parts.{owned-parts}
 use Rattle.offsets.specs.declared.rounds.Walk.{Walk}
 use Rattle.offsets.specs.Before.{Before}
 
@@ -48,7 +48,7 @@ module _ (f : List ℕ) (counts : owned f ≡ true) where
   unfolding firstInput
   inputs-small bytes i first n h p q =
       let t = sum-turn (phiInputs f) {i = i} p q in
-      omega (arith, sum-le (phiInputs f) (i + 1) (size f phis) (omega arith), owned-inputs f counts, size-small f bytes inputs)
+      omega (arith, sum-le (phiInputs f) (i + 1) (size f phis) (omega arith), owned-parts f counts .all-inputs, size-small f bytes inputs)
 
 -- one of n numbers from a on
 pub within : (a i n s : ℕ) → i < n → a + n ≤ s → a + i < s

@@ -1,5 +1,4 @@
-pub mod Ground
-pub mod Address
+pub mod Agreed
 pub mod Defs
 pub mod Ran
 pub mod Before

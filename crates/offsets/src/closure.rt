@@ -12,7 +12,7 @@ ghost use Rattle.definition.specs.Read.{read};
 ghost use Rattle.definition.specs.Offsets.{Known, look, closure, offsets};
 ghost use Rattle.values.specs.Keys.{placesOf, keyed};
 ghost use Rattle.values.specs.Tables.{firstOf, table};
-ghost use Rattle.offsets.specs.Ground.{Ground};
+ghost use Rattle.sums.specs.Ground.{Ground};
 ghost use Rattle.offsets.specs.Defs.{mine, defsBelow};
 
 // The key of RSP at entry, and its offset, which is 0.

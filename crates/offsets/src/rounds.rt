@@ -16,7 +16,7 @@ ghost use Rattle.definition.specs.Contents.{size, text};
 ghost use Rattle.definition.specs.Owners.{firstInput};
 ghost use Rattle.definition.specs.Read.{blockAt, allTrees};
 ghost use Rattle.definition.specs.Offsets.{blockDefs};
-ghost use Rattle.offsets.specs.Ground.{Ground};
+ghost use Rattle.sums.specs.Ground.{Ground};
 ghost use Rattle.offsets.specs.Defs.{mine, phiDefs, stmtDefs, defsBelow};
 ghost use Rattle.offsets.specs.Ran.{Ran};
 ghost use Rattle.offsets.specs.Before.{Before};

@@ -1,11 +1,11 @@
 // What one definition adds to the table.
-use crate::address::stack_off;
-use crate::reading::value_at;
 use records::contents::phi_word;
 use records::owners::ASSIGN;
 use records::owners::phi_inputs;
 use records::owners::stmt_field;
 use records::owners::stmt_kind;
+use sums::address::stack_off;
+use sums::reading::value_at;
 use values::places::Places;
 use values::read::at_u32;
 use values::read::at_u64;
@@ -16,8 +16,9 @@ ghost use lib.ListN.{length};
 ghost use Rattle.definition.specs.Edition.{Edition, phis, statements};
 ghost use Rattle.definition.specs.Contents.{size, text};
 ghost use Rattle.definition.specs.Owners.{firstInput};
-ghost use Rattle.offsets.specs.Ground.{Ground};
-ghost use Rattle.offsets.specs.Address.{valueAt, agreedBy};
+ghost use Rattle.sums.specs.Ground.{Ground};
+ghost use Rattle.sums.specs.Address.{valueAt};
+ghost use Rattle.offsets.specs.Agreed.{agreedBy};
 ghost use Rattle.offsets.specs.Defs.{turnOf, mine, phiDefs, stmtDefs};
 ghost use Rattle.offsets.specs.Ran.{passOf, learnt, Ran};
 

@@ -1,6 +1,6 @@
 use Rattle.names.proofs.Entered.{entry-table}
 use Rattle.names.proofs.Ticking.{stmts-start, stmts-turn, stmts-end}
-use Rattle.names.specs.Walk.{entrySpots, ticked}
+use Rattle.names.specs.Spots.{entrySpots, ticked}
 use Rattle.values.specs.Keys.{placesOf}
 use Rattle.values.specs.declared.places.Places.{Places}
 use Rattle.definition.specs.Lists.{gather, range}

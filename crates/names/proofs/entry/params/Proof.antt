@@ -1,6 +1,6 @@
 use Rattle.names.proofs.Entered.{params-count}
 use Rattle.names.proofs.Params.{isRead, last-found, last-turn, last-none}
-use Rattle.names.specs.Walk.{upTo}
+use Rattle.names.specs.Spots.{upTo}
 use Rattle.definition.specs.Contents.{size}
 use Rattle.definition.specs.Edition.{Edition, args}
 use Prim.Native.Nat.{_≤_}

@@ -1,6 +1,6 @@
 use Rattle.names.proofs.Reading.{uses-run}
 use Rattle.names.proofs.Ticking.{tick-run, tick-none, tick-some}
-use Rattle.names.specs.Walk.{ticked}
+use Rattle.names.specs.Spots.{ticked}
 use Rattle.records.proofs.Items.{size-small}
 use Rattle.reads.proofs.Visits.{exprs-low}
 use Rattle.definition.specs.Edition.{statements}

@@ -1,4 +1,5 @@
-use Rattle.offsets.proofs.Closed.{some-edition, Closes, close-start, close-turn, close-end, close-less}
+use Rattle.sums.proofs.Naming.{some-edition}
+use Rattle.offsets.proofs.Closed.{Closes, close-start, close-turn, close-end, close-less}
 use Rattle.offsets.specs.Ran.{zeros}
 use Rattle.offsets.specs.Defs.{mine, defsBelow}
 use Rattle.values.specs.Tables.{table}

@@ -1,6 +1,6 @@
 use Rattle.offsets.proofs.Closed.{offsets-are}
 use Rattle.offsets.proofs.Beginning.{zeros-long, begun}
-use Rattle.offsets.proofs.Naming.{grounded}
+use Rattle.sums.proofs.Naming.{grounded}
 use mathlib.Core.Path.{_∙_}
 use borrow.Author.Needs.{needs}
 use Rattle.offsets.proofs.closure.offsets.Statement.{statement}

@@ -1,6 +1,6 @@
 use Rattle.offsets.proofs.Walking.{before-start}
 use Rattle.offsets.proofs.Running.{blocks-start, blocks-turn, blocks-end}
-use Rattle.offsets.proofs.Naming.{under}
+use Rattle.sums.proofs.Naming.{under}
 use Rattle.offsets.specs.Before.{Before}
 use Rattle.offsets.specs.Ran.{Ran}
 use Rattle.offsets.specs.Defs.{mine, defsBelow}

@@ -1,5 +1,6 @@
-use Rattle.offsets.proofs.Nodes.{agree-none, agree-start, agree-turn, agree-off, agree-end}
-use Rattle.offsets.specs.Address.{valueAt, agreeFrom, agreedBy}
+use Rattle.offsets.proofs.Agreeing.{agree-none, agree-start, agree-turn, agree-off, agree-end}
+use Rattle.sums.specs.Address.{valueAt}
+use Rattle.offsets.specs.Agreed.{agreeFrom, agreedBy}
 use native.Mathlib.Omega.{arith}
 use Prim.Native.Nat.{_≤_, _-_}
 use mathlib.Core.Path.{_≡_, _∙_}

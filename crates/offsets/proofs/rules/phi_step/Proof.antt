@@ -1,5 +1,5 @@
 use Rattle.offsets.proofs.Stepping.{phi-other, phi-ran}
-use Rattle.offsets.proofs.Naming.{phi-inside, inputs-inside}
+use Rattle.offsets.proofs.Agreeing.{phi-inside, inputs-inside}
 use borrow.Author.Tests.{not-true, not-false}
 use native.Mathlib.Omega.{arith}
 use borrow.Author.Needs.{needs}

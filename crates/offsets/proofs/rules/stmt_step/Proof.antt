@@ -1,5 +1,5 @@
 use Rattle.offsets.proofs.Stepping.{stmt-none, assign-other, assign-ran}
-use Rattle.offsets.proofs.Naming.{stmt-inside}
+use Rattle.sums.proofs.Naming.{stmt-inside}
 use borrow.Author.Tests.{not-true, not-false}
 use native.Mathlib.Omega.{arith}
 use borrow.Author.Needs.{needs}

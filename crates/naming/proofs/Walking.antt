@@ -1,0 +1,128 @@
+-- A walk goes over spots one behind the other: a run of calls, and the loops, which go over the numbers from k up to b. What the returns come to.
+use mathlib.Core.Path.{_≡_, refl, sym, ap, ap₂, _∙_}
+use mathlib.Core.Bool.{Bool, true, false}
+use mathlib.Core.List.{List, [], _∷_, _++_, map}
+use Prim.Native.Nat.{ℕ, suc, _+_, _-_, _≤_, _<_}
+use native.Mathlib.Omega.{arith}
+use borrow.Author.Tests.{ne-eqb}
+use Rattle.definition.specs.Lists.{gather, range}
+use Rattle.definition.specs.Contents.{phiWord, inputAt, exprWord}
+use Rattle.definition.specs.Owners.{exprItems, valueItems, phiInputs, firstInput, firstItem}
+use Rattle.definition.specs.Values.{Value, value}
+use Rattle.definition.specs.Meaning.{phiValue, assigned, callReturns}
+use Rattle.definition.specs.Read.{marked}
+use Rattle.defined.specs.declared.value.Value.{Value as Value′}
+use Rattle.defined.specs.declared.value.Defined.{Defined}
+use Rattle.defined.specs.declared.value.Defined.the-variants.{Nothing, One}
+use Rattle.defined.specs.Defined.{valueOf, listOf, itemValue}
+use Rattle.values.specs.declared.places.Places.{Places}
+use Rattle.values.specs.Keys.{placesOf}
+use Rattle.reads.specs.Uses.{useValue}
+use Rattle.names.specs.Spots.{Spot, Known, State, spot, named, useSpot, useSpots}
+use Rattle.naming.specs.Walk.{walked, inputSpot, phiSpots, fieldSpots, itemSpot, itemSpots, stmtSpots}
+
+module _ (K : Known) where
+  walk-append : (S : State) (xs ys : List Spot) → walked K S (xs ++ ys) ≡ walked K (walked K S xs) ys
+  unfolding walked
+  walk-append S [] ys = refl
+  walk-append S (x ∷ xs) ys = walk-append (named K S x) xs ys
+
+  -- one spot before others, and several
+  pub walk-next : (S T R : State) (x : Spot) (xs : List Spot) → T ≡ named K S x → R ≡ walked K T xs → R ≡ walked K S (x ∷ xs)
+  unfolding walked
+  walk-next S T R x xs p q = q ∙ ap (λ (U : State). walked K U xs) p
+
+  pub walk-more : (S T R : State) (xs ys : List Spot) → T ≡ walked K S xs → R ≡ walked K T ys → R ≡ walked K S (xs ++ ys)
+  walk-more S T R xs ys p q = q ∙ ap (λ (U : State). walked K U ys) p ∙ sym (walk-append S xs ys)
+
+  -- a turn over one spot, and over several
+  pub each-turn : (g : ℕ → Spot) (S S′ : State) (k b : ℕ) → k < b → S′ ≡ named K S (g k) → walked K S (map g (range k (b - k))) ≡ walked K S′ (map g (range (k + 1) (b - (k + 1))))
+  unfolding walked range
+  each-turn g S S′ k b h e =
+      let p : b - k ≡ suc (b - (k + 1)) = omega arith in
+      rw (p, e)
+
+  pub each-end : (g : ℕ → Spot) (S R : State) (k b : ℕ) → b ≤ k → R ≡ walked K S (map g (range k (b - k))) → S ≡ R
+  unfolding walked range
+  each-end g S R k b h e = let p : b - k ≡ 0 = omega arith in sym (e ∙ rw p)
+
+  pub runs-turn : (g : ℕ → List Spot) (S S′ : State) (k b : ℕ) → k < b → S′ ≡ walked K S (g k) → walked K S (gather g (range k (b - k))) ≡ walked K S′ (gather g (range (k + 1) (b - (k + 1))))
+  unfolding gather range
+  runs-turn g S S′ k b h e =
+      let p : b - k ≡ suc (b - (k + 1)) = omega arith in
+      rw (p, e) (walk-append S (g k) (gather g (range (k + 1) (b - (k + 1)))))
+
+  pub runs-end : (g : ℕ → List Spot) (S R : State) (k b : ℕ) → b ≤ k → R ≡ walked K S (gather g (range k (b - k))) → S ≡ R
+  unfolding walked range gather
+  runs-end g S R k b h e = let p : b - k ≡ 0 = omega arith in sym (e ∙ rw p)
+
+-- ---- spots as they are read
+pub input-spot : (f : List ℕ) (i k from reg ver : ℕ) → from ≡ placesOf f .inputs → reg ≡ phiWord f i 0 → ver ≡ inputAt f k → spot (from + k) (value reg ver) ≡ inputSpot f i k
+unfolding inputSpot
+input-spot f i k from reg ver p q r = rw (p, q, r)
+
+pub item-spot : (f : List ℕ) (k from : ℕ) (v : Value) → from ≡ placesOf f .items → v ≡ itemValue f k → spot (from + k) v ≡ itemSpot f k
+unfolding itemSpot
+item-spot f k from v p q = ap₂ (λ (a : ℕ) (w : Value). spot (a + k) w) p q
+
+pub use-spot : (f : List ℕ) (n from reg ver : ℕ) → from ≡ placesOf f .exprs → reg ≡ exprWord f n 1 → ver ≡ exprWord f n 2 → spot (from + n) (value reg ver) ≡ useSpot f n
+unfolding useSpot useValue
+use-spot f n from reg ver p q r = rw (p, q, r)
+
+-- ---- returns
+module _ (K : Known) (p : ℕ) (S : State) (d : Defined) where
+  pub defined-none : d ≡ Nothing → S ≡ walked K S (map (spot p) (listOf d))
+  unfolding walked
+  defined-none h = rw h
+
+  pub defined-one : (S′ : State) (v : Value′) → d ≡ One v → S′ ≡ named K S (spot p (valueOf v)) → S′ ≡ walked K S (map (spot p) (listOf d))
+  unfolding walked
+  defined-one S′ v h e = rw h e
+
+module _ (K : Known) (f : List ℕ) (i r n : ℕ) (S : State) (is : value r n ≡ phiValue f i) where
+  reg-is : phiWord f i 0 ≡ r
+  unfolding phiValue
+  reg-is = sym (ap (λ (v : Value). v .reg) is)
+
+  pub phi-rsp : r ≡ 4 → S ≡ walked K S (phiSpots f i)
+  unfolding phiSpots walked
+  phi-rsp h = rw (reg-is, h)
+
+  pub phi-dead : (r ≡ 4 → ⊥) → (d : ℕ) → d ≡ phiWord f i 2 → d ≡ 1 → S ≡ walked K S (phiSpots f i)
+  unfolding phiSpots walked
+  phi-dead h d e g = rw (reg-is, ne-eqb r 4 h, sym e ∙ g)
+
+  pub phi-live : (r ≡ 4 → ⊥) → (d : ℕ) → d ≡ phiWord f i 2 → (d ≡ 1 → ⊥) → (T R : State) (P : Places) (first m : ℕ) → P ≡ placesOf f → first ≡ firstInput f i → m ≡ phiInputs f i
+      → T ≡ named K S (spot (P .phis + i) (value r n)) → R ≡ walked K T (map (inputSpot f i) (range first (first + m - first))) → R ≡ walked K S (phiSpots f i)
+  unfolding phiSpots
+  phi-live h d e g T R P first m a b c t u =
+      let k : first + m - first ≡ m = omega arith in
+      rw (reg-is, ne-eqb r 4 h, ← e, ne-eqb d 1 g)
+      (walk-next K S T R (spot (placesOf f .phis + i) (phiValue f i)) (map (inputSpot f i) (range (firstInput f i) (phiInputs f i)))
+      (t ∙ ap₂ (λ (Q : Places) (v : Value). named K S (spot (Q .phis + i) v)) a is)
+      (u ∙ ap₂ (λ (x y : ℕ). walked K T (map (inputSpot f i) (range x y))) b (k ∙ c)))
+
+module _ (K : Known) (f : List ℕ) (i : ℕ) (S : State) where
+  pub fields-two : (p q : ℕ) (d e : Defined) (T R : State) → p ≡ q + i → q ≡ placesOf f .stmts → listOf d ≡ assigned f i → listOf e ≡ callReturns f i
+      → T ≡ walked K S (map (spot p) (listOf d)) → R ≡ walked K T (map (spot p) (listOf e)) → R ≡ walked K S (fieldSpots f i)
+  unfolding fieldSpots
+  fields-two p q d e T R a b x y t u =
+      let at-field : p ≡ placesOf f .stmts + i = omega arith in
+      walk-more K S T R (map (spot (placesOf f .stmts + i)) (assigned f i)) (map (spot (placesOf f .stmts + i)) (callReturns f i))
+      (t ∙ ap₂ (λ (z : ℕ) (l : List Value). walked K S (map (spot z) l)) at-field x)
+      (u ∙ ap₂ (λ (z : ℕ) (l : List Value). walked K T (map (spot z) l)) at-field y)
+
+  pub stmt-dead : (d : Bool) → d ≡ marked f i 1 → d ≡ true → S ≡ walked K S (stmtSpots f i)
+  unfolding stmtSpots walked
+  stmt-dead d e h = rw (sym e ∙ h)
+
+  pub stmt-live : (d : Bool) → d ≡ marked f i 1 → d ≡ false → (T U R : State) (first x m : ℕ) → first ≡ firstItem f i → x ≡ exprItems f i → m ≡ valueItems f i
+      → T ≡ walked K S (fieldSpots f i) → U ≡ walked K T (map (itemSpot f) (range (first + x) (first + x + m - (first + x))))
+      → R ≡ walked K U (useSpots f i) → R ≡ walked K S (stmtSpots f i)
+  unfolding stmtSpots itemSpots
+  stmt-live d e h T U R first x m a b c t u r =
+      let k : first + x + m - (first + x) ≡ m = omega arith in
+      rw (sym e ∙ h)
+      (walk-more K S T R (fieldSpots f i) (map (itemSpot f) (range (firstItem f i + exprItems f i) (valueItems f i)) ++ useSpots f i) t
+      (walk-more K T U R (map (itemSpot f) (range (firstItem f i + exprItems f i) (valueItems f i))) (useSpots f i)
+      (u ∙ ap₂ (λ (y z : ℕ). walked K T (map (itemSpot f) (range y z))) (ap₂ (λ (y z : ℕ). y + z) a b) (k ∙ c)) r))

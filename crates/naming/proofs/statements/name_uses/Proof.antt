@@ -1,0 +1,83 @@
+use Rattle.naming.proofs.Small.{exprs-small}
+use Rattle.naming.proofs.Walking.{each-turn, each-end, use-spot}
+use Rattle.names.specs.Spots.{known, state, named, useSpot}
+use Rattle.naming.specs.Walk.{walked}
+use Rattle.values.specs.Tables.{at}
+use Rattle.definition.specs.Lists.{range}
+use lib.ListN.{length}
+use Prim.Native.Nat.{ℕ, _-_}
+use mathlib.Core.List.{map}
+use mathlib.Core.Path.{_≡_, refl, ap, _∙_}
+use native.Mathlib.Omega.{arith}
+use borrow.Author.Needs.{needs}
+use Rattle.naming.proofs.statements.name_uses.Statement.{statement}
+use Rattle.naming.proofs.statements.name_uses.Tie as tie
+
+abbrev Inv-loop : tie.InvT-loop
+Inv-loop names₀ seen₀ f numbers roots away order from a b next next₀ k₀ names seen next' k = (walked (known numbers roots away) (state names₀ seen₀ next) (map (λ (j : ℕ). useSpot f (at order j)) (range a (b - a))) ≡ walked (known numbers roots away) (state names seen next') (map (λ (j : ℕ). useSpot f (at order j)) (range k (b - k)))) × (length names ≡ length names₀) × (length seen ≡ length seen₀)
+
+abbrev μ-loop : tie.MeasureT-loop
+μ-loop names₀ seen₀ f numbers roots away order from a b next next₀ k₀ names seen next' k = b - k
+
+loop-holds : tie.Need-loop-holds Inv-loop μ-loop
+loop-holds c = (refl, refl, refl)
+
+cast-at-u32 : tie.Need-cast-at-u32 Inv-loop μ-loop
+cast-at-u32 c = search needs
+
+at-u32-requires : tie.Need-at-u32-requires Inv-loop μ-loop
+at-u32-requires c κs = search needs
+
+cast-p : tie.Need-cast-p Inv-loop μ-loop
+cast-p c = search needs
+
+add-p : tie.Need-add-p Inv-loop μ-loop
+add-p c = omega (arith, exprs-small (c .before .before .before .before .before .before .before .before .before .before .args .f .now) (c .before .before .before .before .before .before .before .shared-slice-known .given), c .before .before .before .before .before .before .before .before .before .before .pre)
+
+expr-word-requires : tie.Need-expr-word-requires Inv-loop μ-loop
+expr-word-requires c κs = search needs
+
+expr-word-requires-2 : tie.Need-expr-word-requires-2 Inv-loop μ-loop
+expr-word-requires-2 c κs = search needs
+
+name-key-requires : tie.Need-name-key-requires Inv-loop μ-loop
+name-key-requires c κs = search needs
+
+add-k : tie.Need-add-k Inv-loop μ-loop
+add-k c = search needs
+
+loop-less : tie.Need-loop-less Inv-loop μ-loop
+loop-less c = search needs
+
+loop-again : tie.Need-loop-again Inv-loop μ-loop
+loop-again c = let inv = c .before .before .before .before .before .before .before .before .before .before .before .loop .inv in (inv .0 ∙ each-turn _ (λ (j : ℕ). useSpot (c .before .before .before .before .before .before .before .before .before .before .before .before .before .before .before .before .before .before .before .args .f .now) (at (c .before .before .before .before .before .before .before .before .before .before .before .before .before .before .before .before .before .before .before .args .order .now) j)) _ _ _ _ (c .before .before .before .before .before .before .before .before .before .before .loop-test .taken) (c .before .before .before .before .name-key .ensures ∙ ap (named _ _) (use-spot _ _ _ _ _ (c .before .before .before .before .before .before .before .before .before .before .before .before .before .before .before .before .before .before .before .pre) (c .before .before .before .before .before .before .before .before .expr-word .ensures) (c .before .before .before .before .before .before .before .expr-word2 .ensures) ∙ ap (useSpot _) (c .before .before .before .before .before .before .before .before .before .at-u32 .ensures))), c .before .before .before .before .name-key .kept .0 ∙ inv .1, c .before .before .before .before .name-key .kept .1 .0 ∙ inv .2)
+
+same-length : tie.Need-same-length Inv-loop μ-loop
+same-length c = c .before .loop .inv .1
+
+same-length-2 : tie.Need-same-length-2 Inv-loop μ-loop
+same-length-2 c = c .before .loop .inv .2
+
+returns : tie.Need-returns Inv-loop μ-loop
+returns c = each-end _ (λ (j : ℕ). useSpot (c .before .before .before .before .before .before .before .before .before .args .f .now) (at (c .before .before .before .before .before .before .before .before .before .args .order .now) j)) _ _ _ _ (c .loop-test .left) (c .before .loop .inv .0)
+
+pub name-uses-spec : {M : Type 1} → statement M
+name-uses-spec =
+    tie.close
+    (tie.spec
+    Inv-loop
+    μ-loop
+    loop-holds
+    cast-at-u32
+    at-u32-requires
+    cast-p
+    add-p
+    expr-word-requires
+    expr-word-requires-2
+    name-key-requires
+    add-k
+    loop-less
+    loop-again
+    same-length
+    same-length-2
+    returns)

@@ -1,0 +1,209 @@
+// What live statements define and read, in order.
+use crate::position::Walk;
+use defined::value::Defined;
+use defined::value::Value;
+use defined::value::assigned_by;
+use defined::value::item_value;
+use defined::value::next_item;
+use defined::value::returned_by;
+use names::key::name_key;
+use records::contents::expr_word;
+use records::owners::expr_items;
+use records::owners::is_dead;
+use records::owners::value_items;
+use values::places::Places;
+use values::read::at_u32;
+ghost use mathlib.Core.Path.{_≡_};
+ghost use mathlib.Core.List.{map};
+ghost use Prim.Native.Nat.{_-_, _≤_, _<_};
+ghost use Rattle.definition.specs.Edition.{statements};
+ghost use Rattle.definition.specs.Lists.{gather, range};
+ghost use Rattle.definition.specs.Contents.{size};
+ghost use Rattle.definition.specs.Owners.{firstItem};
+ghost use Rattle.defined.specs.Defined.{listOf};
+ghost use Rattle.values.specs.Keys.{placesOf};
+ghost use Rattle.values.specs.Tables.{at};
+ghost use Rattle.names.specs.Spots.{spot, known, state, useSpot};
+ghost use Rattle.naming.specs.Walk.{walked, fieldSpots, itemSpot, stmtSpots};
+ghost use Rattle.naming.specs.Given.{Laid, Went, standing};
+
+// A value that a statement defines by its fields, if there is one; place p names it.
+fn name_defined(
+    names: &mut [u32],
+    seen: &mut [u32],
+    numbers: &[u32],
+    roots: &[u32],
+    away: &[u32],
+    p: usize,
+    d: Defined,
+    next: u32,
+) -> u32
+    ensures { λ r. ⌜ state (now (names .exit)) (now (seen .exit)) r
+        ≡ walked (known (now (numbers .entry)) (now (roots .entry)) (now (away .entry))) (state (now (names .entry)) (now (seen .entry)) next)
+        (map (spot p) (listOf d)) ⌝ }
+{
+    match d {
+        Defined::Nothing => next,
+        Defined::One(v) => name_key(names, seen, numbers, roots, away, p, v, next),
+    }
+}
+
+// The list items from a up to b, which are values; all items stand from place `from` on.
+fn name_items(
+    names: &mut [u32],
+    seen: &mut [u32],
+    f: &[u8],
+    numbers: &[u32],
+    roots: &[u32],
+    away: &[u32],
+    from: usize,
+    a: u32,
+    b: u32,
+    next: u32,
+) -> u32
+    requires { ⌜ from ≡ placesOf (now f) .items ⌝ }
+    ensures { λ r. ⌜ state (now (names .exit)) (now (seen .exit)) r
+        ≡ walked (known (now (numbers .entry)) (now (roots .entry)) (now (away .entry))) (state (now (names .entry)) (now (seen .entry)) next)
+        (map (itemSpot (now (f .entry))) (range a (b - a))) ⌝ }
+{
+    let mut next = next;
+    let mut k = a;
+    while k < b {
+        let p = from + k as usize;
+        let v = item_value(f, k);
+        next = name_key(names, seen, numbers, roots, away, p, v, next);
+        k += 1;
+    }
+    next
+}
+
+// The nodes that `order` has from a up to b; all nodes stand from place `from` on.
+fn name_uses(
+    names: &mut [u32],
+    seen: &mut [u32],
+    f: &[u8],
+    numbers: &[u32],
+    roots: &[u32],
+    away: &[u32],
+    order: &[u32],
+    from: usize,
+    a: u32,
+    b: u32,
+    next: u32,
+) -> u32
+    requires { ⌜ from ≡ placesOf (now f) .exprs ⌝ }
+    ensures { λ r. ⌜ state (now (names .exit)) (now (seen .exit)) r
+        ≡ walked (known (now (numbers .entry)) (now (roots .entry)) (now (away .entry))) (state (now (names .entry)) (now (seen .entry)) next)
+        (map (λ k. useSpot (now (f .entry)) (at (now (order .entry)) k)) (range a (b - a))) ⌝ }
+{
+    let mut next = next;
+    let mut k = a;
+    while k < b {
+        let n = at_u32(order, k as usize);
+        let p = from + n as usize;
+        let v = Value {
+            reg: expr_word(f, n, 1),
+            ver: expr_word(f, n, 2),
+        };
+        next = name_key(names, seen, numbers, roots, away, p, v, next);
+        k += 1;
+    }
+    next
+}
+
+// What statement i defines by its fields; those of all statements stand from place `from` on.
+fn name_fields(
+    names: &mut [u32],
+    seen: &mut [u32],
+    f: &[u8],
+    numbers: &[u32],
+    roots: &[u32],
+    away: &[u32],
+    from: usize,
+    i: u32,
+    next: u32,
+) -> u32
+    requires { ⌜ from ≡ placesOf (now f) .stmts ⌝ }
+    ensures { λ r. ⌜ state (now (names .exit)) (now (seen .exit)) r
+        ≡ walked (known (now (numbers .entry)) (now (roots .entry)) (now (away .entry))) (state (now (names .entry)) (now (seen .entry)) next)
+        (fieldSpots (now (f .entry)) i) ⌝ }
+{
+    let p = from + i as usize;
+    let d = assigned_by(f, i);
+    let next = name_defined(names, seen, numbers, roots, away, p, d, next);
+    let d = returned_by(f, i);
+    name_defined(names, seen, numbers, roots, away, p, d, next)
+}
+
+// The next statement, where it is live.
+fn name_stmt(
+    names: &mut [u32],
+    seen: &mut [u32],
+    f: &[u8],
+    numbers: &[u32],
+    roots: &[u32],
+    away: &[u32],
+    order: &[u32],
+    starts: &[u32],
+    at: Places,
+    w: Walk,
+) -> u32
+    requires { ⌜ Laid (now f) at (now order) (now starts) ⌝ }
+    requires { ⌜ (w .stmt < size (now f) statements) × (w .item ≡ firstItem (now f) (w .stmt)) ⌝ }
+    ensures { λ r. ⌜ state (now (names .exit)) (now (seen .exit)) r
+        ≡ walked (known (now (numbers .entry)) (now (roots .entry)) (now (away .entry))) (state (now (names .entry)) (now (seen .entry)) (w .next))
+        (stmtSpots (now (f .entry)) (w .stmt)) ⌝ }
+{
+    let i = w.stmt;
+    let first = w.item;
+    let next = w.next;
+    if is_dead(f, i) {
+        return next;
+    }
+    let next = name_fields(names, seen, f, numbers, roots, away, at.stmts, i, next);
+    let a = first + expr_items(f, i);
+    let b = a + value_items(f, i);
+    let next = name_items(names, seen, f, numbers, roots, away, at.items, a, b, next);
+    let e = at.exprs;
+    let x = at_u32(starts, i as usize);
+    let y = at_u32(starts, i as usize + 1);
+    name_uses(names, seen, f, numbers, roots, away, order, e, x, y, next)
+}
+
+// The next statements, up to b.
+pub fn name_stmts(
+    names: &mut [u32],
+    seen: &mut [u32],
+    f: &[u8],
+    numbers: &[u32],
+    roots: &[u32],
+    away: &[u32],
+    order: &[u32],
+    starts: &[u32],
+    at: Places,
+    b: u32,
+    w: Walk,
+) -> Walk
+    requires { ⌜ Laid (now f) at (now order) (now starts) ⌝ }
+    requires { ⌜ (w .stmt ≤ b) × (b ≤ size (now f) statements) × (w ≡ standing (now f) (w .phi) (w .stmt) (w .next)) ⌝ }
+    ensures { λ r. ⌜ Went (now (f .entry)) (known (now (numbers .entry)) (now (roots .entry)) (now (away .entry)))
+        (now (names .entry)) (now (seen .entry)) (now (names .exit)) (now (seen .exit)) w r (w .phi) b
+        (gather (stmtSpots (now (f .entry))) (range (w .stmt) (b - w .stmt))) ⌝ }
+{
+    let mut v = w;
+    while v.stmt < b {
+        let next = name_stmt(names, seen, f, numbers, roots, away, order, starts, at, v);
+        let item = next_item(f, v.stmt, v.item);
+        let phi = v.phi;
+        let stmt = v.stmt + 1;
+        let input = v.input;
+        v = Walk {
+            phi: phi,
+            stmt: stmt,
+            input: input,
+            item: item,
+            next: next,
+        };
+    }
+    v
+}
