@@ -1,5 +1,5 @@
 -- A condition taken out of `if (C) goto L;`, and its negation (c.rs, `negate`, and the heads and ends that the passes write).
-use mathlib.Core.Bool.{Bool, true, false, not, cond, _&&_, _||_}
+use mathlib.Core.Bool.{Bool, true, false, not, cond, _&&_}
 use mathlib.Core.List.{List, [], _∷_, _++_}
 use Prim.Native.Nat.{ℕ, _+_}
 use lib.Dec.{eqb}

@@ -1,6 +1,6 @@
 -- A statement of a shaped file has one of seven kinds, so the case of its record is the kind's; and Flags have no line.
 use mathlib.Core.Path.{_≡_, refl, sym, ap, _∙_}
-use mathlib.Core.Bool.{Bool, true, false, not, _&&_, false≢true}
+use mathlib.Core.Bool.{Bool, true, not, _&&_, false≢true}
 use mathlib.Core.List.{List, []}
 use Prim.Native.Nat.{ℕ, _<_, _≤_}
 use native.Mathlib.Omega.{arith}
@@ -23,10 +23,7 @@ use Rattle.definition.proofs.Bools.{by-test, by-cond, both-true}
 use Rattle.records.proofs.Below.{all-fail}
 use Rattle.statements.specs.Statement.{kindNumber, stmtRecord}
 use Rattle.statements.specs.View.{viewKind, viewStmt}
-use Rattle.statements.specs.declared.statement.Flags.{Flags as FlagsS}
-use Rattle.statements.specs.declared.statement.Kind.{Kind as KindS}
 use Rattle.statements.specs.declared.statement.Kind.the-variants.{Flags}
-use Rattle.statements.specs.declared.statement.Stmt.{Stmt as StmtS}
 use Rattle.statements.proofs.Views.{stmt-owned, kind-number}
 use Rattle.inline.specs.Placing.{behind}
 use Rattle.naming.proofs.Small.{parts-below}

@@ -1,20 +1,17 @@
 -- A walk over the blocks comes to the first parts of the next block, and what a block has is inside its section, so that its numbers have 32 bits.
 use mathlib.Core.Path.{_≡_, refl, sym, ap, _∙_}
-use mathlib.Core.Bool.{Bool, true, _&&_}
+use mathlib.Core.Bool.{Bool, true}
 use mathlib.Core.List.{List}
 use Prim.Native.Nat.{ℕ, _+_, _≤_, _<_}
 use native.Mathlib.Omega.{arith}
-use lib.Dec.{eqb}
 use lib.ListN.{getD}
 use mir.Syntax.{w8}
 use mir.Val.{Fits}
-use borrow.Author.Tests.{eqb-true}
-use Rattle.definition.specs.Edition.{blocks, phis, inputs, statements, lists}
+use Rattle.definition.specs.Edition.{blocks, phis, inputs, statements}
 use Rattle.definition.specs.Lists.{sumBelow}
 use Rattle.definition.specs.Contents.{size}
-use Rattle.definition.specs.Owners.{blockPhis, blockStmts, phiInputs, firstPhi, firstStmt, firstInput, firstItem}
+use Rattle.definition.specs.Owners.{blockPhis, blockStmts, phiInputs, firstPhi, firstStmt, firstInput}
 use Rattle.definition.specs.Shape.{owned}
-use Rattle.definition.proofs.Bools.{both-true}
 use Rattle.records.proofs.Below.{sum-start, sum-le, sum-turn}
 use Rattle.records.proofs.Items.{size-small}
 use Rattle.records.proofs.Parts.{owned-parts}
@@ -22,26 +19,17 @@ use Rattle.offsets.specs.declared.rounds.Walk.{Walk}
 use Rattle.offsets.specs.Before.{Before}
 
 module _ (f : List ℕ) (counts : owned f ≡ true) where
-  two : (eqb (firstPhi f (size f blocks)) (size f phis) ≡ true) × (eqb (firstStmt f (size f blocks)) (size f statements) ≡ true)
-  unfolding owned
-  two =
-      let p = eqb (firstPhi f (size f blocks)) (size f phis) in
-      let s = eqb (firstStmt f (size f blocks)) (size f statements) in
-      let i = eqb (firstInput f (size f phis)) (size f inputs) in
-      let l = eqb (firstItem f (size f statements)) (size f lists) in
-      both-true p s (both-true (p && s) i (both-true (p && s && i) l counts .0) .0)
-
   pub phis-inside : (b n : ℕ) → b < size f blocks → n ≡ blockPhis f b → firstPhi f b + n ≤ size f phis
   unfolding firstPhi
   phis-inside b n h e =
       let t = sum-turn (blockPhis f) {i = b} refl e in
-      omega (arith, sum-le (blockPhis f) (b + 1) (size f blocks) (omega arith), eqb-true (firstPhi f (size f blocks)) (size f phis) (two .0))
+      omega (arith, sum-le (blockPhis f) (b + 1) (size f blocks) (omega arith), owned-parts f counts .all-phis)
 
   pub stmts-inside : (b n : ℕ) → b < size f blocks → n ≡ blockStmts f b → firstStmt f b + n ≤ size f statements
   unfolding firstStmt
   stmts-inside b n h e =
       let t = sum-turn (blockStmts f) {i = b} refl e in
-      omega (arith, sum-le (blockStmts f) (b + 1) (size f blocks) (omega arith), eqb-true (firstStmt f (size f blocks)) (size f statements) (two .1))
+      omega (arith, sum-le (blockStmts f) (b + 1) (size f blocks) (omega arith), owned-parts f counts .all-stmts)
 
   -- the inputs behind those of phi i have 32 bits
   pub inputs-small : ((k : ℕ) → Fits w8 (getD f k 0)) → (i first n : ℕ) → i < size f phis → first ≡ firstInput f i → n ≡ phiInputs f i → first + n < 4294967296

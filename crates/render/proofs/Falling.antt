@@ -1,6 +1,6 @@
 -- The position, then the node, falls: as one number, a position counts 2^33, twice as much as there may be nodes.
 use mathlib.Core.Path.{_≡_}
-use Prim.Native.Nat.{ℕ, _+_, _*_, _^_, _-_, _<_}
+use Prim.Native.Nat.{ℕ, _+_, _*_, _^_, _<_}
 use native.Mathlib.Omega.{arith}
 use lib.Arith.{digits-lt}
 

@@ -3,9 +3,6 @@ use native.Mathlib.Omega.{arith}
 use Prim.Native.Nat.{_-_, _≤_}
 use Rattle.contents.proofs.print_words.Statement.{statement}
 use Rattle.contents.proofs.print_words.Tie as tie
-use Rattle.contents.proofs.print_words.Reads as reads
-use Rattle.contents.proofs.print_words.Lts as lts
-use Rattle.contents.proofs.print_word.Reads as print-word-reads
 
 abbrev Inv-loop : tie.InvT-loop
 Inv-loop f k₀ k = k ≤ 22

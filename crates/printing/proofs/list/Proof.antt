@@ -1,9 +1,6 @@
 use borrow.Author.Needs.{needs}
 use Rattle.printing.proofs.list.Statement.{statement}
 use Rattle.printing.proofs.list.Tie as tie
-use Rattle.printing.proofs.list.Reads as reads
-use Rattle.printing.proofs.list.Lts as lts
-use Rattle.lister.proofs.sorkhelaw_list.Reads as sorkhelaw-list-reads
 
 slice-aggregate-sorkhelaw-list : tie.Need-slice-aggregate-sorkhelaw-list
 slice-aggregate-sorkhelaw-list c = search needs

@@ -3,10 +3,6 @@ use native.Mathlib.Omega.{arith}
 use Prim.Native.Nat.{_-_, _≤_}
 use Rattle.replay.proofs.replay_all.Statement.{statement}
 use Rattle.replay.proofs.replay_all.Tie as tie
-use Rattle.replay.proofs.replay_all.Reads as reads
-use Rattle.replay.proofs.replay_all.Lts as lts
-use Rattle.replay.proofs.replay.Reads as replay-reads
-use Rattle.words.proofs.word_at.Reads as word-at-reads
 
 abbrev Inv-loop : tie.InvT-loop
 Inv-loop lengths count i₀ i = i ≤ count

@@ -2,12 +2,6 @@ use Rattle.structure.proofs.Whole.{known-heads, finishes}
 use borrow.Author.Needs.{needs}
 use Rattle.structure.proofs.structure.Statement.{statement}
 use Rattle.structure.proofs.structure.Tie as tie
-use Rattle.structure.proofs.structure.Reads as reads
-use Rattle.structure.proofs.structure.Lts as lts
-use Rattle.sorts.proofs.sorts.Reads as sorts-reads
-use Rattle.structure.proofs.passing.passes_of.Reads as passes-of-reads
-use Rattle.structure.proofs.passing.wipe.Reads as wipe-reads
-use Rattle.structure.proofs.writing.answer.Reads as answer-reads
 
 sorts-requires : tie.Need-sorts-requires
 sorts-requires c κs = search needs

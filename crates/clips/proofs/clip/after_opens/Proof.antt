@@ -5,9 +5,6 @@ use native.Mathlib.Omega.{arith}
 use borrow.Author.Needs.{needs}
 use Rattle.clips.proofs.clip.after_opens.Statement.{statement}
 use Rattle.clips.proofs.clip.after_opens.Tie as tie
-use Rattle.clips.proofs.clip.after_opens.Reads as reads
-use Rattle.clips.proofs.clip.after_opens.Lts as lts
-use Rattle.sheet.proofs.ranges.begins_between.Reads as begins-between-reads
 
 abbrev Inv-loop : tie.InvT-loop
 Inv-loop text from to i₀ t5 i = Opening text from to i

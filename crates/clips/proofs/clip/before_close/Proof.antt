@@ -4,10 +4,6 @@ use native.Mathlib.Omega.{arith}
 use borrow.Author.Needs.{needs}
 use Rattle.clips.proofs.clip.before_close.Statement.{statement}
 use Rattle.clips.proofs.clip.before_close.Tie as tie
-use Rattle.clips.proofs.clip.before_close.Reads as reads
-use Rattle.clips.proofs.clip.before_close.Lts as lts
-use Rattle.sheet.proofs.ranges.is_between.Reads as is-between-reads
-use Rattle.sheet.proofs.ranges.least.Reads as least-reads
 
 least-requires : tie.Need-least-requires
 least-requires c κs = search needs

@@ -8,9 +8,6 @@ use native.Mathlib.Omega.{arith}
 use borrow.Author.Needs.{needs}
 use Rattle.clips.proofs.clip.before_goto.Statement.{statement}
 use Rattle.clips.proofs.clip.before_goto.Tie as tie
-use Rattle.clips.proofs.clip.before_goto.Reads as reads
-use Rattle.clips.proofs.clip.before_goto.Lts as lts
-use Rattle.clips.proofs.clip.is_goto.Reads as is-goto-reads
 
 abbrev Inv-loop : tie.InvT-loop
 Inv-loop tokens text a n k₀ k = (length (beforeGoto (tokensIn tokens text a n)) ≡ k + length (beforeGoto (tokensIn tokens text (a + k) (n - k)))) × (k ≤ n)

@@ -2,9 +2,6 @@ use Rattle.clips.proofs.Clips.{from-first, from-other}
 use borrow.Author.Needs.{needs}
 use Rattle.clips.proofs.clip.clip_from.Statement.{statement}
 use Rattle.clips.proofs.clip.clip_from.Tie as tie
-use Rattle.clips.proofs.clip.clip_from.Reads as reads
-use Rattle.clips.proofs.clip.clip_from.Lts as lts
-use Rattle.clips.proofs.clip.token_start.Reads as token-start-reads
 
 returns : tie.Need-returns
 returns c = let a = c .before .before .args in from-first (a .tokens .now) (a .c) (a .k) (c .if1 .taken)

@@ -3,9 +3,6 @@ use native.Mathlib.Omega.{arith}
 use borrow.Author.Needs.{needs}
 use Rattle.clips.proofs.clip.clip_to.Statement.{statement}
 use Rattle.clips.proofs.clip.clip_to.Tie as tie
-use Rattle.clips.proofs.clip.clip_to.Reads as reads
-use Rattle.clips.proofs.clip.clip_to.Lts as lts
-use Rattle.clips.proofs.clip.token_end.Reads as token-end-reads
 
 token-end-requires : tie.Need-token-end-requires
 token-end-requires c κs = search needs

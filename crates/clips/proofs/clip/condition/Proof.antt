@@ -5,14 +5,6 @@ use native.Mathlib.Omega.{arith}
 use borrow.Author.Needs.{needs}
 use Rattle.clips.proofs.clip.condition.Statement.{statement}
 use Rattle.clips.proofs.clip.condition.Tie as tie
-use Rattle.clips.proofs.clip.condition.Reads as reads
-use Rattle.clips.proofs.clip.condition.Lts as lts
-use Rattle.clips.proofs.clip.after_opens.Reads as after-opens-reads
-use Rattle.clips.proofs.clip.before_close.Reads as before-close-reads
-use Rattle.clips.proofs.clip.before_goto.Reads as before-goto-reads
-use Rattle.clips.proofs.clip.clip_from.Reads as clip-from-reads
-use Rattle.clips.proofs.clip.token_end.Reads as token-end-reads
-use Rattle.clips.proofs.clip.token_start.Reads as token-start-reads
 
 before-goto-requires : tie.Need-before-goto-requires
 before-goto-requires c κs = search needs

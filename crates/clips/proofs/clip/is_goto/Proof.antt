@@ -2,10 +2,6 @@ use Rattle.clips.proofs.Clips.{goto-same}
 use borrow.Author.Needs.{needs}
 use Rattle.clips.proofs.clip.is_goto.Statement.{statement}
 use Rattle.clips.proofs.clip.is_goto.Tie as tie
-use Rattle.clips.proofs.clip.is_goto.Reads as reads
-use Rattle.clips.proofs.clip.is_goto.Lts as lts
-use Rattle.sheet.proofs.tokens.place.Reads as place-reads
-use Rattle.sheet.proofs.tokens.token_is.Reads as token-is-reads
 
 place-requires : tie.Need-place-requires
 place-requires c κs = search needs

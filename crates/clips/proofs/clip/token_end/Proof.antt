@@ -2,10 +2,6 @@ use Rattle.clips.proofs.Clips.{end-same}
 use borrow.Author.Needs.{needs}
 use Rattle.clips.proofs.clip.token_end.Statement.{statement}
 use Rattle.clips.proofs.clip.token_end.Tie as tie
-use Rattle.clips.proofs.clip.token_end.Reads as reads
-use Rattle.clips.proofs.clip.token_end.Lts as lts
-use Rattle.sheet.proofs.tokens.end_at.Reads as end-at-reads
-use Rattle.sheet.proofs.tokens.place.Reads as place-reads
 
 place-requires : tie.Need-place-requires
 place-requires c κs = search needs

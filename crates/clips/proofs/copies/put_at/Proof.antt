@@ -2,13 +2,6 @@ use Rattle.clips.proofs.Emits.{put-token}
 use borrow.Author.Needs.{needs}
 use Rattle.clips.proofs.copies.put_at.Statement.{statement}
 use Rattle.clips.proofs.copies.put_at.Tie as tie
-use Rattle.clips.proofs.copies.put_at.Reads as reads
-use Rattle.clips.proofs.copies.put_at.Lts as lts
-use Rattle.clips.proofs.copies.put_between.Reads as put-between-reads
-use Rattle.sheet.proofs.tokens.end_at.Reads as end-at-reads
-use Rattle.sheet.proofs.tokens.kind_at.Reads as kind-at-reads
-use Rattle.sheet.proofs.tokens.place.Reads as place-reads
-use Rattle.sheet.proofs.tokens.start_at.Reads as start-at-reads
 
 place-requires : tie.Need-place-requires
 place-requires c κs = search needs

@@ -8,9 +8,6 @@ use native.Mathlib.Omega.{arith}
 use borrow.Author.Needs.{needs}
 use Rattle.clips.proofs.copies.put_clip.Statement.{statement}
 use Rattle.clips.proofs.copies.put_clip.Tie as tie
-use Rattle.clips.proofs.copies.put_clip.Reads as reads
-use Rattle.clips.proofs.copies.put_clip.Lts as lts
-use Rattle.clips.proofs.copies.put_clip_at.Reads as put-clip-at-reads
 
 abbrev Inv-loop : tie.InvT-loop
 Inv-loop tokens₀ text₀ lowered source c out₀ k₀ tokens text out k = (seen (roomOf tokens text out) ≡ seen (emitAll (roomOf tokens₀ text₀ out₀) (texts (clipAt lowered source c) (k - 1)))) × (1 ≤ k) × (k - 1 ≤ c .count - 1) × (length tokens ≡ length tokens₀) × (length text ≡ length text₀)

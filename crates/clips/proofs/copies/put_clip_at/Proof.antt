@@ -3,14 +3,6 @@ use Rattle.clips.proofs.Clips.{kind-same}
 use borrow.Author.Needs.{needs}
 use Rattle.clips.proofs.copies.put_clip_at.Statement.{statement}
 use Rattle.clips.proofs.copies.put_clip_at.Tie as tie
-use Rattle.clips.proofs.copies.put_clip_at.Reads as reads
-use Rattle.clips.proofs.copies.put_clip_at.Lts as lts
-use Rattle.clips.proofs.clip.clip_from.Reads as clip-from-reads
-use Rattle.clips.proofs.clip.clip_to.Reads as clip-to-reads
-use Rattle.clips.proofs.copies.put_between.Reads as put-between-reads
-use Rattle.sheet.proofs.ranges.none_between.Reads as none-between-reads
-use Rattle.sheet.proofs.tokens.kind_at.Reads as kind-at-reads
-use Rattle.sheet.proofs.tokens.place.Reads as place-reads
 
 clip-from-requires : tie.Need-clip-from-requires
 clip-from-requires c κs = search needs

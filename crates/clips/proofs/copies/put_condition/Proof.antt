@@ -2,10 +2,6 @@ use Rattle.room.proofs.Laws.{pieces-are}
 use borrow.Author.Needs.{needs}
 use Rattle.clips.proofs.copies.put_condition.Statement.{statement}
 use Rattle.clips.proofs.copies.put_condition.Tie as tie
-use Rattle.clips.proofs.copies.put_condition.Reads as reads
-use Rattle.clips.proofs.copies.put_condition.Lts as lts
-use Rattle.clips.proofs.clip.condition.Reads as condition-reads
-use Rattle.clips.proofs.copies.put_clip.Reads as put-clip-reads
 
 condition-requires : tie.Need-condition-requires
 condition-requires c κs = search needs

@@ -8,9 +8,6 @@ use native.Mathlib.Omega.{arith}
 use borrow.Author.Needs.{needs}
 use Rattle.clips.proofs.copies.put_line.Statement.{statement}
 use Rattle.clips.proofs.copies.put_line.Tie as tie
-use Rattle.clips.proofs.copies.put_line.Reads as reads
-use Rattle.clips.proofs.copies.put_line.Lts as lts
-use Rattle.clips.proofs.copies.put_at.Reads as put-at-reads
 
 abbrev Inv-loop : tie.InvT-loop
 Inv-loop tokens₀ text₀ lowered source a n out₀ k₀ tokens text out k = (seen (roomOf tokens text out) ≡ seen (emitAll (roomOf tokens₀ text₀ out₀) (tokensIn lowered source a k))) × (k ≤ n) × (length tokens ≡ length tokens₀) × (length text ≡ length text₀)

@@ -4,14 +4,6 @@ use Rattle.comparisons.proofs.Looking.{step-other, step-hit, step-dull,
 use borrow.Author.Needs.{needs}
 use Rattle.comparisons.proofs.looks.look_at.Statement.{statement}
 use Rattle.comparisons.proofs.looks.look_at.Tie as tie
-use Rattle.comparisons.proofs.looks.look_at.Reads as reads
-use Rattle.comparisons.proofs.looks.look_at.Lts as lts
-use Rattle.clips.proofs.clip.clip_from.Reads as clip-from-reads
-use Rattle.clips.proofs.clip.clip_to.Reads as clip-to-reads
-use Rattle.comparisons.proofs.signs.compares.Reads as compares-reads
-use Rattle.comparisons.proofs.signs.count_between.Reads as count-between-reads
-use Rattle.sheet.proofs.tokens.kind_at.Reads as kind-at-reads
-use Rattle.sheet.proofs.tokens.place.Reads as place-reads
 
 place-requires : tie.Need-place-requires
 place-requires c κs = search needs

@@ -8,9 +8,6 @@ use Rattle.comparisons.specs.Looks.{unseen, looked, Within}
 use Rattle.comparisons.proofs.Looking.{within-start, within-next, look-turn, look-end}
 use Rattle.comparisons.proofs.looks.look_over.Statement.{statement}
 use Rattle.comparisons.proofs.looks.look_over.Tie as tie
-use Rattle.comparisons.proofs.looks.look_over.Reads as reads
-use Rattle.comparisons.proofs.looks.look_over.Lts as lts
-use Rattle.comparisons.proofs.looks.look_at.Reads as look-at-reads
 
 abbrev Inv-loop : tie.InvT-loop
 Inv-loop lowered source c l₀ k₀ l k = (looked unseen 1 (map (clipAt lowered source c) (range 1 (c .count - 1))) ≡ looked l k (map (clipAt lowered source c) (range k (c .count - k)))) × (1 ≤ k) × (k < c .count → Within lowered c k l)

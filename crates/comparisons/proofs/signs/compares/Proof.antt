@@ -3,9 +3,6 @@ use mathlib.Core.Path.{_∙_}
 use borrow.Author.Needs.{needs}
 use Rattle.comparisons.proofs.signs.compares.Statement.{statement}
 use Rattle.comparisons.proofs.signs.compares.Tie as tie
-use Rattle.comparisons.proofs.signs.compares.Reads as reads
-use Rattle.comparisons.proofs.signs.compares.Lts as lts
-use Rattle.comparisons.proofs.signs.first_sign.Reads as first-sign-reads
 
 first-sign-requires : tie.Need-first-sign-requires
 first-sign-requires c κs = search needs

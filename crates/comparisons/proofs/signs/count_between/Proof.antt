@@ -8,10 +8,6 @@ use Rattle.sheet.specs.Ranges.{between}
 use Rattle.comparisons.proofs.Comparing.{tally-most, below-end, count-turn, count-end}
 use Rattle.comparisons.proofs.signs.count_between.Statement.{statement}
 use Rattle.comparisons.proofs.signs.count_between.Tie as tie
-use Rattle.comparisons.proofs.signs.count_between.Reads as reads
-use Rattle.comparisons.proofs.signs.count_between.Lts as lts
-use Rattle.comparisons.proofs.signs.tally.Reads as tally-reads
-use Rattle.sheet.proofs.ranges.least.Reads as least-reads
 
 abbrev Inv-loop : tie.InvT-loop
 Inv-loop source from to b e n₀ i₀ n i = (n + count (eqb b) (between source i to) ≡ count (eqb b) (between source from to)) × (n + from ≤ i)

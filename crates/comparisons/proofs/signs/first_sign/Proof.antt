@@ -5,9 +5,6 @@ use mathlib.Core.Path.{sym, _∙_}
 use borrow.Author.Needs.{needs}
 use Rattle.comparisons.proofs.signs.first_sign.Statement.{statement}
 use Rattle.comparisons.proofs.signs.first_sign.Tie as tie
-use Rattle.comparisons.proofs.signs.first_sign.Reads as reads
-use Rattle.comparisons.proofs.signs.first_sign.Lts as lts
-use Rattle.sheet.proofs.ranges.contains_between.Reads as contains-between-reads
 
 slice-aggregate-contains-between : tie.Need-slice-aggregate-contains-between
 slice-aggregate-contains-between c = search needs

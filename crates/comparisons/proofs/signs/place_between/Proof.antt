@@ -7,10 +7,6 @@ use Rattle.comparisons.specs.Looks.{placeOf}
 use Rattle.comparisons.proofs.Comparing.{place-hit, place-turn, place-end}
 use Rattle.comparisons.proofs.signs.place_between.Statement.{statement}
 use Rattle.comparisons.proofs.signs.place_between.Tie as tie
-use Rattle.comparisons.proofs.signs.place_between.Reads as reads
-use Rattle.comparisons.proofs.signs.place_between.Lts as lts
-use Rattle.sheet.proofs.ranges.begins_between.Reads as begins-between-reads
-use Rattle.sheet.proofs.ranges.least.Reads as least-reads
 
 abbrev Inv-loop : tie.InvT-loop
 Inv-loop source from to w e i₀ i = from + placeOf w (between source from to) ≡ i + placeOf w (between source i to)

@@ -8,11 +8,6 @@ use native.Mathlib.Omega.{arith}
 use borrow.Author.Needs.{needs}
 use Rattle.comparisons.proofs.signs.put_opposite.Statement.{statement}
 use Rattle.comparisons.proofs.signs.put_opposite.Tie as tie
-use Rattle.comparisons.proofs.signs.put_opposite.Reads as reads
-use Rattle.comparisons.proofs.signs.put_opposite.Lts as lts
-use Rattle.clips.proofs.copies.put_between.Reads as put-between-reads
-use Rattle.comparisons.proofs.signs.first_sign.Reads as first-sign-reads
-use Rattle.comparisons.proofs.signs.put_replaced.Reads as put-replaced-reads
 
 first-sign-requires : tie.Need-first-sign-requires
 first-sign-requires c κs = search needs

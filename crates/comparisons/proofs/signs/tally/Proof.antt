@@ -1,8 +1,6 @@
 use Rattle.comparisons.proofs.Comparing.{tally-same, tally-other}
 use Rattle.comparisons.proofs.signs.tally.Statement.{statement}
 use Rattle.comparisons.proofs.signs.tally.Tie as tie
-use Rattle.comparisons.proofs.signs.tally.Reads as reads
-use Rattle.comparisons.proofs.signs.tally.Lts as lts
 
 returns : tie.Need-returns
 returns c = tally-same _ _ (c .if1 .taken)

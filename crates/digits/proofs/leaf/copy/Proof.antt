@@ -7,8 +7,6 @@ use mathlib.Core.List.{_++_}
 use mathlib.Core.Path.{_≡_, refl, ap, _∙_}
 use Rattle.digits.proofs.leaf.copy.Statement.{statement}
 use Rattle.digits.proofs.leaf.copy.Tie as tie
-use Rattle.digits.proofs.leaf.copy.Reads as reads
-use Rattle.digits.proofs.leaf.copy.Lts as lts
 
 abbrev Inv-loop : tie.InvT-loop
 Inv-loop dst₀ src i₀ dst i = (dst ≡ take i src ++ drop i dst₀) × (i ≤ length src) × (length dst ≡ length dst₀)

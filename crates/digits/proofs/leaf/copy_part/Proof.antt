@@ -3,9 +3,6 @@ use Rattle.digits.proofs.Leaves.{leaf-as}
 use borrow.Author.Needs.{needs}
 use Rattle.digits.proofs.leaf.copy_part.Statement.{statement}
 use Rattle.digits.proofs.leaf.copy_part.Tie as tie
-use Rattle.digits.proofs.leaf.copy_part.Reads as reads
-use Rattle.digits.proofs.leaf.copy_part.Lts as lts
-use Rattle.digits.proofs.leaf.copy.Reads as copy-reads
 
 returns : tie.Need-returns
 returns c = part-past _ _ _ _ (c .if1 .taken)

@@ -3,8 +3,6 @@ use Rattle.digits.specs.Numeral.{baseOf}
 use borrow.Author.Needs.{needs}
 use Rattle.digits.proofs.numbers.base.Statement.{statement}
 use Rattle.digits.proofs.numbers.base.Tie as tie
-use Rattle.digits.proofs.numbers.base.Reads as reads
-use Rattle.digits.proofs.numbers.base.Lts as lts
 
 enum-told : tie.Need-enum-told
 enum-told c = search needs

@@ -7,10 +7,6 @@ use mathlib.Core.Path.{refl}
 use borrow.Author.Needs.{needs}
 use Rattle.digits.proofs.numbers.behind.Statement.{statement}
 use Rattle.digits.proofs.numbers.behind.Tie as tie
-use Rattle.digits.proofs.numbers.behind.Reads as reads
-use Rattle.digits.proofs.numbers.behind.Lts as lts
-use Rattle.digits.proofs.leaf.copy.Reads as copy-reads
-use Rattle.digits.proofs.numbers.digits.Reads as digits-reads
 
 returns : tie.Need-returns
 returns c = let a = c .before .before .before .args in no-front (a .front .now) (numeral (a .x) (a .v)) _ _ refl (c .if1 .taken)

@@ -2,9 +2,6 @@ use Rattle.digits.proofs.Digits.{digit-low, digit-high}
 use borrow.Author.Needs.{needs}
 use Rattle.digits.proofs.numbers.digit.Statement.{statement}
 use Rattle.digits.proofs.numbers.digit.Tie as tie
-use Rattle.digits.proofs.numbers.digit.Reads as reads
-use Rattle.digits.proofs.numbers.digit.Lts as lts
-use Rattle.digits.proofs.numbers.ten.Reads as ten-reads
 
 cast-result : tie.Need-cast-result
 cast-result c = search needs

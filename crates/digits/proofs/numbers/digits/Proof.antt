@@ -2,10 +2,6 @@ use Rattle.digits.proofs.Digits.{digits-short, digits-fit}
 use borrow.Author.Needs.{needs}
 use Rattle.digits.proofs.numbers.digits.Statement.{statement}
 use Rattle.digits.proofs.numbers.digits.Tie as tie
-use Rattle.digits.proofs.numbers.digits.Reads as reads
-use Rattle.digits.proofs.numbers.digits.Lts as lts
-use Rattle.digits.proofs.numbers.fill.Reads as fill-reads
-use Rattle.digits.proofs.numbers.width.Reads as width-reads
 
 width-requires : tie.Need-width-requires
 width-requires c κs = search needs

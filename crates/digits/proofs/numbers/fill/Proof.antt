@@ -6,10 +6,6 @@ use Prim.Native.Nat.{_≤_}
 use mathlib.Core.Path.{_≡_, refl, sym, _∙_}
 use Rattle.digits.proofs.numbers.fill.Statement.{statement}
 use Rattle.digits.proofs.numbers.fill.Tie as tie
-use Rattle.digits.proofs.numbers.fill.Reads as reads
-use Rattle.digits.proofs.numbers.fill.Lts as lts
-use Rattle.digits.proofs.numbers.base.Reads as base-reads
-use Rattle.digits.proofs.numbers.digit.Reads as digit-reads
 
 abbrev Inv-loop : tie.InvT-loop
 Inv-loop dst₀ x n v b i₀ r₀ dst i r = (filled b (tenOf x) n v dst₀ ≡ filled b (tenOf x) i r dst) × (i ≤ n) × (length dst ≡ length dst₀)

@@ -3,9 +3,6 @@ use Rattle.digits.proofs.Leaves.{leaf-as}
 use borrow.Author.Needs.{needs}
 use Rattle.digits.proofs.numbers.hex_upper.Statement.{statement}
 use Rattle.digits.proofs.numbers.hex_upper.Tie as tie
-use Rattle.digits.proofs.numbers.hex_upper.Reads as reads
-use Rattle.digits.proofs.numbers.hex_upper.Lts as lts
-use Rattle.digits.proofs.numbers.digits.Reads as digits-reads
 
 digits-requires : tie.Need-digits-requires
 digits-requires c κs = search needs

@@ -4,9 +4,6 @@ use native.Mathlib.Omega.{arith}
 use borrow.Author.Needs.{needs}
 use Rattle.digits.proofs.numbers.num.Statement.{statement}
 use Rattle.digits.proofs.numbers.num.Tie as tie
-use Rattle.digits.proofs.numbers.num.Reads as reads
-use Rattle.digits.proofs.numbers.num.Lts as lts
-use Rattle.digits.proofs.numbers.behind.Reads as behind-reads
 
 slice-aggregate-behind : tie.Need-slice-aggregate-behind
 slice-aggregate-behind c = search needs

@@ -3,9 +3,6 @@ use Rattle.digits.proofs.Leaves.{leaf-as}
 use borrow.Author.Needs.{needs}
 use Rattle.digits.proofs.numbers.outward.Statement.{statement}
 use Rattle.digits.proofs.numbers.outward.Tie as tie
-use Rattle.digits.proofs.numbers.outward.Reads as reads
-use Rattle.digits.proofs.numbers.outward.Lts as lts
-use Rattle.digits.proofs.numbers.behind.Reads as behind-reads
 
 slice-aggregate-behind : tie.Need-slice-aggregate-behind
 slice-aggregate-behind c = search needs

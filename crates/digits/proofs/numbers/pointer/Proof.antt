@@ -10,11 +10,6 @@ use mathlib.Core.List.{_++_}
 use borrow.Author.Needs.{needs}
 use Rattle.digits.proofs.numbers.pointer.Statement.{statement}
 use Rattle.digits.proofs.numbers.pointer.Tie as tie
-use Rattle.digits.proofs.numbers.pointer.Reads as reads
-use Rattle.digits.proofs.numbers.pointer.Lts as lts
-use Rattle.digits.proofs.leaf.copy.Reads as copy-reads
-use Rattle.digits.proofs.numbers.behind.Reads as behind-reads
-use Rattle.digits.proofs.numbers.width.Reads as width-reads
 
 mul-v : tie.Need-mul-v
 mul-v c = search needs

@@ -3,8 +3,6 @@ use Rattle.digits.specs.Numeral.{tenOf}
 use borrow.Author.Needs.{needs}
 use Rattle.digits.proofs.numbers.ten.Statement.{statement}
 use Rattle.digits.proofs.numbers.ten.Tie as tie
-use Rattle.digits.proofs.numbers.ten.Reads as reads
-use Rattle.digits.proofs.numbers.ten.Lts as lts
 
 enum-told : tie.Need-enum-told
 enum-told c = search needs

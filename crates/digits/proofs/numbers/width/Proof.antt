@@ -2,9 +2,6 @@ use Rattle.digits.proofs.Digits.{Turned, turned-none, turned-more, turn
 use native.Mathlib.Omega.{arith}
 use Rattle.digits.proofs.numbers.width.Statement.{statement}
 use Rattle.digits.proofs.numbers.width.Tie as tie
-use Rattle.digits.proofs.numbers.width.Reads as reads
-use Rattle.digits.proofs.numbers.width.Lts as lts
-use Rattle.digits.proofs.numbers.base.Reads as base-reads
 
 abbrev Inv-loop : tie.InvT-loop
 Inv-loop v b n₀ r₀ n r = Turned b v n r

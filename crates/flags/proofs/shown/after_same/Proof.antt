@@ -1,4 +1,3 @@
-use Rattle.definition.specs.Condition.Setter.{self as alike}
 use mathlib.Core.Path.{ap, _∙_}
 use Rattle.flags.proofs.Printing.{shown-as, same-none}
 use Rattle.definition.specs.Condition.{shown}

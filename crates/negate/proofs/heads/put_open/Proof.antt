@@ -4,11 +4,6 @@ use mathlib.Core.Path.{sym, ap, _∙_}
 use borrow.Author.Needs.{needs}
 use Rattle.negate.proofs.heads.put_open.Statement.{statement}
 use Rattle.negate.proofs.heads.put_open.Tie as tie
-use Rattle.negate.proofs.heads.put_open.Reads as reads
-use Rattle.negate.proofs.heads.put_open.Lts as lts
-use Rattle.clips.proofs.clip.condition.Reads as condition-reads
-use Rattle.negate.proofs.negation.put_negated.Reads as put-negated-reads
-use Rattle.pieces.proofs.put.put.Reads as put-reads
 
 slice-aggregate-put : tie.Need-slice-aggregate-put
 slice-aggregate-put c = search needs

@@ -4,9 +4,6 @@ use Rattle.negate.proofs.Negating.{test-count, test-first, test-last}
 use borrow.Author.Needs.{needs}
 use Rattle.negate.proofs.negation.flips.Statement.{statement}
 use Rattle.negate.proofs.negation.flips.Tie as tie
-use Rattle.negate.proofs.negation.flips.Reads as reads
-use Rattle.negate.proofs.negation.flips.Lts as lts
-use Rattle.sheet.proofs.ranges.contains_between.Reads as contains-between-reads
 
 returns : tie.Need-returns
 returns c = let a = c .before .before .args in let s = between (a .source .now) (a .c .from) (a .c .to) in test-count _ (contains (txt "&&") s) (contains (txt "||") s) (c .if1 .taken)

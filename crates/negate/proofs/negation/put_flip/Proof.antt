@@ -2,12 +2,6 @@ use Rattle.negate.proofs.Negating.{flip-nothing, flip-some}
 use borrow.Author.Needs.{needs}
 use Rattle.negate.proofs.negation.put_flip.Statement.{statement}
 use Rattle.negate.proofs.negation.put_flip.Tie as tie
-use Rattle.negate.proofs.negation.put_flip.Reads as reads
-use Rattle.negate.proofs.negation.put_flip.Lts as lts
-use Rattle.clips.proofs.clip.clip_from.Reads as clip-from-reads
-use Rattle.clips.proofs.clip.clip_to.Reads as clip-to-reads
-use Rattle.comparisons.proofs.signs.put_opposite.Reads as put-opposite-reads
-use Rattle.sheet.proofs.ranges.none_between.Reads as none-between-reads
 
 clip-from-requires : tie.Need-clip-from-requires
 clip-from-requires c κs = search needs

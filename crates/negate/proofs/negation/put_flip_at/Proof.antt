@@ -2,10 +2,6 @@ use Rattle.negate.proofs.Negating.{at-place, at-other}
 use borrow.Author.Needs.{needs}
 use Rattle.negate.proofs.negation.put_flip_at.Statement.{statement}
 use Rattle.negate.proofs.negation.put_flip_at.Tie as tie
-use Rattle.negate.proofs.negation.put_flip_at.Reads as reads
-use Rattle.negate.proofs.negation.put_flip_at.Lts as lts
-use Rattle.clips.proofs.copies.put_clip_at.Reads as put-clip-at-reads
-use Rattle.negate.proofs.negation.put_flip.Reads as put-flip-reads
 
 put-flip-requires : tie.Need-put-flip-requires
 put-flip-requires c κs = search needs

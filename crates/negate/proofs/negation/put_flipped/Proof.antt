@@ -9,9 +9,6 @@ use Rattle.clips.specs.Clip.{clipAt, texts}
 use Rattle.clips.proofs.Emits.{texts-start, texts-turn, texts-end}
 use Rattle.negate.proofs.negation.put_flipped.Statement.{statement}
 use Rattle.negate.proofs.negation.put_flipped.Tie as tie
-use Rattle.negate.proofs.negation.put_flipped.Reads as reads
-use Rattle.negate.proofs.negation.put_flipped.Lts as lts
-use Rattle.negate.proofs.negation.put_flip_at.Reads as put-flip-at-reads
 
 abbrev Inv-loop : tie.InvT-loop
 Inv-loop tokens₀ text₀ lowered source c p out₀ k₀ tokens text out k = (seen (roomOf tokens text out) ≡ seen (emitAll (roomOf tokens₀ text₀ out₀) (texts (flipped (clipAt lowered source c) p) (k - 1)))) × (1 ≤ k) × (k - 1 ≤ c .count - 1) × (length tokens ≡ length tokens₀) × (length text ≡ length text₀)

@@ -4,12 +4,6 @@ use Rattle.negate.proofs.Marks.{negate-flips, negate-wraps}
 use borrow.Author.Needs.{needs}
 use Rattle.negate.proofs.negation.put_negated.Statement.{statement}
 use Rattle.negate.proofs.negation.put_negated.Tie as tie
-use Rattle.negate.proofs.negation.put_negated.Reads as reads
-use Rattle.negate.proofs.negation.put_negated.Lts as lts
-use Rattle.comparisons.proofs.looks.look_over.Reads as look-over-reads
-use Rattle.negate.proofs.negation.flips.Reads as flips-reads
-use Rattle.negate.proofs.negation.put_flipped.Reads as put-flipped-reads
-use Rattle.negate.proofs.negation.put_wrapped.Reads as put-wrapped-reads
 
 look-over-requires : tie.Need-look-over-requires
 look-over-requires c κs = c .before .before .before .before .pre

@@ -7,8 +7,6 @@ use native.Mathlib.Omega.{arith}
 use borrow.Author.Needs.{needs}
 use Rattle.outline.proofs.forming.clear.Statement.{statement}
 use Rattle.outline.proofs.forming.clear.Tie as tie
-use Rattle.outline.proofs.forming.clear.Reads as reads
-use Rattle.outline.proofs.forming.clear.Lts as lts
 
 abbrev Inv-loop : tie.InvT-loop
 Inv-loop s₀ a b k₀ s k = (a ≤ k) × (k ≤ b) × (length s ≡ length s₀) × (changeF nought s₀ a (b - a) ≡ changeF nought s k (b - k))

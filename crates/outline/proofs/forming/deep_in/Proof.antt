@@ -6,10 +6,6 @@ use Prim.Native.Nat.{_-_}
 use borrow.Author.Needs.{needs}
 use Rattle.outline.proofs.forming.deep_in.Statement.{statement}
 use Rattle.outline.proofs.forming.deep_in.Tie as tie
-use Rattle.outline.proofs.forming.deep_in.Reads as reads
-use Rattle.outline.proofs.forming.deep_in.Lts as lts
-use Rattle.outline.proofs.rows.row_at.Reads as row-at-reads
-use Rattle.outline.proofs.rows.too_deep.Reads as too-deep-reads
 
 abbrev Inv-loop : tie.InvT-loop
 Inv-loop rows i j k₀ k = deepIn rows i j ≡ someRow tooDeep rows k (j - k)

@@ -7,8 +7,6 @@ use native.Mathlib.Omega.{arith}
 use borrow.Author.Needs.{needs}
 use Rattle.outline.proofs.forming.insert_row.Statement.{statement}
 use Rattle.outline.proofs.forming.insert_row.Tie as tie
-use Rattle.outline.proofs.forming.insert_row.Reads as reads
-use Rattle.outline.proofs.forming.insert_row.Lts as lts
 
 abbrev Inv-loop : tie.InvT-loop
 Inv-loop rows₀ n j v k₀ rows k = (j ≤ k) × (k ≤ n) × (length rows ≡ length rows₀) × (shiftF rows₀ j (n - j) ≡ shiftF rows j (k - j))

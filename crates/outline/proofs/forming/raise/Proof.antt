@@ -7,9 +7,6 @@ use native.Mathlib.Omega.{arith}
 use borrow.Author.Needs.{needs}
 use Rattle.outline.proofs.forming.raise.Statement.{statement}
 use Rattle.outline.proofs.forming.raise.Tie as tie
-use Rattle.outline.proofs.forming.raise.Reads as reads
-use Rattle.outline.proofs.forming.raise.Lts as lts
-use Rattle.outline.proofs.forming.up.Reads as up-reads
 
 abbrev Inv-loop : tie.InvT-loop
 Inv-loop rows₀ a b k₀ rows k = (a ≤ k) × (k ≤ b) × (length rows ≡ length rows₀) × (changeF raised rows₀ a (b - a) ≡ changeF raised rows k (b - k))

@@ -3,9 +3,6 @@ use native.Mathlib.Omega.{arith}
 use borrow.Author.Needs.{needs}
 use Rattle.outline.proofs.forming.turn.Statement.{statement}
 use Rattle.outline.proofs.forming.turn.Tie as tie
-use Rattle.outline.proofs.forming.turn.Reads as reads
-use Rattle.outline.proofs.forming.turn.Lts as lts
-use Rattle.outline.proofs.rows.kind_of.Reads as kind-of-reads
 
 kind-of-requires : tie.Need-kind-of-requires
 kind-of-requires c κs = search needs

@@ -3,9 +3,6 @@ use native.Mathlib.Omega.{arith}
 use borrow.Author.Needs.{needs}
 use Rattle.outline.proofs.forming.up.Statement.{statement}
 use Rattle.outline.proofs.forming.up.Tie as tie
-use Rattle.outline.proofs.forming.up.Reads as reads
-use Rattle.outline.proofs.forming.up.Lts as lts
-use Rattle.outline.proofs.rows.indent_of.Reads as indent-of-reads
 
 indent-of-requires : tie.Need-indent-of-requires
 indent-of-requires c κs = search needs

@@ -3,9 +3,6 @@ use mathlib.Core.Path.{refl}
 use borrow.Author.Needs.{needs}
 use Rattle.outline.proofs.rows.is_goto.Statement.{statement}
 use Rattle.outline.proofs.rows.is_goto.Tie as tie
-use Rattle.outline.proofs.rows.is_goto.Reads as reads
-use Rattle.outline.proofs.rows.is_goto.Lts as lts
-use Rattle.outline.proofs.rows.kind_of.Reads as kind-of-reads
 
 kind-of-requires : tie.Need-kind-of-requires
 kind-of-requires c κs = search needs

@@ -3,11 +3,6 @@ use native.Mathlib.Omega.{arith}
 use borrow.Author.Needs.{needs}
 use Rattle.outline.proofs.rows.judge.Statement.{statement}
 use Rattle.outline.proofs.rows.judge.Tie as tie
-use Rattle.outline.proofs.rows.judge.Reads as reads
-use Rattle.outline.proofs.rows.judge.Lts as lts
-use Rattle.outline.proofs.rows.indent_of.Reads as indent-of-reads
-use Rattle.outline.proofs.rows.kind_of.Reads as kind-of-reads
-use Rattle.outline.proofs.rows.name_of.Reads as name-of-reads
 
 indent-of-requires : tie.Need-indent-of-requires
 indent-of-requires c κs = search needs

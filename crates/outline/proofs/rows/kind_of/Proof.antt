@@ -2,8 +2,6 @@ use Rattle.outline.specs.Rows.{kindOf}
 use mathlib.Core.Path.{refl}
 use Rattle.outline.proofs.rows.kind_of.Statement.{statement}
 use Rattle.outline.proofs.rows.kind_of.Tie as tie
-use Rattle.outline.proofs.rows.kind_of.Reads as reads
-use Rattle.outline.proofs.rows.kind_of.Lts as lts
 
 returns : tie.Need-returns
 unfolding kindOf

@@ -2,8 +2,6 @@ use Rattle.outline.specs.Rows.{nameOf}
 use mathlib.Core.Path.{refl}
 use Rattle.outline.proofs.rows.name_of.Statement.{statement}
 use Rattle.outline.proofs.rows.name_of.Tie as tie
-use Rattle.outline.proofs.rows.name_of.Reads as reads
-use Rattle.outline.proofs.rows.name_of.Lts as lts
 
 returns : tie.Need-returns
 unfolding nameOf

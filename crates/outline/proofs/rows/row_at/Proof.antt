@@ -4,8 +4,6 @@ use mathlib.Core.Path.{refl, sym}
 use borrow.Author.Needs.{needs}
 use Rattle.outline.proofs.rows.row_at.Statement.{statement}
 use Rattle.outline.proofs.rows.row_at.Tie as tie
-use Rattle.outline.proofs.rows.row_at.Reads as reads
-use Rattle.outline.proofs.rows.row_at.Lts as lts
 
 mul-result : tie.Need-mul-result
 mul-result c = search needs

@@ -3,10 +3,6 @@ use mathlib.Core.Path.{refl}
 use borrow.Author.Needs.{needs}
 use Rattle.outline.proofs.rows.too_deep.Statement.{statement}
 use Rattle.outline.proofs.rows.too_deep.Tie as tie
-use Rattle.outline.proofs.rows.too_deep.Reads as reads
-use Rattle.outline.proofs.rows.too_deep.Lts as lts
-use Rattle.outline.proofs.rows.indent_of.Reads as indent-of-reads
-use Rattle.outline.proofs.rows.kind_of.Reads as kind-of-reads
 
 indent-of-requires : tie.Need-indent-of-requires
 indent-of-requires c κs = search needs

@@ -2,12 +2,6 @@ use Rattle.outline.proofs.SpanLaws.{aimed-other, aimed-label}
 use borrow.Author.Needs.{needs}
 use Rattle.outline.proofs.spans.aimed_out.Statement.{statement}
 use Rattle.outline.proofs.spans.aimed_out.Tie as tie
-use Rattle.outline.proofs.spans.aimed_out.Reads as reads
-use Rattle.outline.proofs.spans.aimed_out.Lts as lts
-use Rattle.outline.proofs.rows.kind_of.Reads as kind-of-reads
-use Rattle.outline.proofs.rows.name_of.Reads as name-of-reads
-use Rattle.outline.proofs.rows.row_at.Reads as row-at-reads
-use Rattle.outline.proofs.spans.is_outside.Reads as is-outside-reads
 
 kind-of-requires : tie.Need-kind-of-requires
 kind-of-requires c κs = search needs

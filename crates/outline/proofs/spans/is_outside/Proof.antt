@@ -2,8 +2,6 @@ use Rattle.outline.proofs.SpanLaws.{out-none, out-low, out-high}
 use native.Mathlib.Omega.{arith}
 use Rattle.outline.proofs.spans.is_outside.Statement.{statement}
 use Rattle.outline.proofs.spans.is_outside.Tie as tie
-use Rattle.outline.proofs.spans.is_outside.Reads as reads
-use Rattle.outline.proofs.spans.is_outside.Lts as lts
 
 returns : tie.Need-returns
 returns c = out-none _ _ _ (c .if1 .taken)

@@ -2,10 +2,6 @@ use Rattle.outline.proofs.SpanLaws.{spans-anew}
 use borrow.Author.Needs.{needs}
 use Rattle.outline.proofs.spans.note.Statement.{statement}
 use Rattle.outline.proofs.spans.note.Tie as tie
-use Rattle.outline.proofs.spans.note.Reads as reads
-use Rattle.outline.proofs.spans.note.Lts as lts
-use Rattle.outline.proofs.forming.clear.Reads as clear-reads
-use Rattle.outline.proofs.spans.note_rows.Reads as note-rows-reads
 
 clear-requires : tie.Need-clear-requires
 clear-requires c κs = search needs

@@ -3,11 +3,6 @@ use Rattle.outline.specs.Tests.{at}
 use borrow.Author.Needs.{needs}
 use Rattle.outline.proofs.spans.note_row.Statement.{statement}
 use Rattle.outline.proofs.spans.note_row.Tie as tie
-use Rattle.outline.proofs.spans.note_row.Reads as reads
-use Rattle.outline.proofs.spans.note_row.Lts as lts
-use Rattle.outline.proofs.rows.is_goto.Reads as is-goto-reads
-use Rattle.outline.proofs.rows.name_of.Reads as name-of-reads
-use Rattle.outline.proofs.spans.widen.Reads as widen-reads
 
 is-goto-requires : tie.Need-is-goto-requires
 is-goto-requires c κs = search needs

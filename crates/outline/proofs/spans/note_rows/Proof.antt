@@ -6,10 +6,6 @@ use Prim.Native.Nat.{_-_}
 use borrow.Author.Needs.{needs}
 use Rattle.outline.proofs.spans.note_rows.Statement.{statement}
 use Rattle.outline.proofs.spans.note_rows.Tie as tie
-use Rattle.outline.proofs.spans.note_rows.Reads as reads
-use Rattle.outline.proofs.spans.note_rows.Lts as lts
-use Rattle.outline.proofs.rows.row_at.Reads as row-at-reads
-use Rattle.outline.proofs.spans.note_row.Reads as note-row-reads
 
 abbrev Inv-loop : tie.InvT-loop
 Inv-loop rows spans₀ n i₀ spans i = (length spans ≡ length spans₀) × (noteFrom rows 0 n spans₀ ≡ noteFrom rows i (n - i) spans)

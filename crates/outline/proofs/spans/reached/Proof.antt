@@ -6,10 +6,6 @@ use Prim.Native.Nat.{_-_}
 use borrow.Author.Needs.{needs}
 use Rattle.outline.proofs.spans.reached.Statement.{statement}
 use Rattle.outline.proofs.spans.reached.Tie as tie
-use Rattle.outline.proofs.spans.reached.Reads as reads
-use Rattle.outline.proofs.spans.reached.Lts as lts
-use Rattle.outline.proofs.rows.row_at.Reads as row-at-reads
-use Rattle.outline.proofs.spans.aimed_out.Reads as aimed-out-reads
 
 abbrev Inv-loop : tie.InvT-loop
 Inv-loop rows spans i j a b k₀ k = reachedIn rows spans i j a b ≡ someRow (aimedOut spans a b) rows k (j - k)

@@ -3,8 +3,6 @@ use native.Mathlib.Omega.{arith}
 use borrow.Author.Needs.{needs}
 use Rattle.outline.proofs.spans.widen.Statement.{statement}
 use Rattle.outline.proofs.spans.widen.Tie as tie
-use Rattle.outline.proofs.spans.widen.Reads as reads
-use Rattle.outline.proofs.spans.widen.Lts as lts
 
 returns : tie.Need-returns
 returns c = wide-out _ _ (c .if1 .taken)

@@ -1,8 +1,6 @@
 use Rattle.passes.proofs.Gathering.{count-all, count-some}
 use Rattle.passes.proofs.dropping.count_rows.Statement.{statement}
 use Rattle.passes.proofs.dropping.count_rows.Tie as tie
-use Rattle.passes.proofs.dropping.count_rows.Reads as reads
-use Rattle.passes.proofs.dropping.count_rows.Lts as lts
 
 returns : tie.Need-returns
 returns c = count-all (c .before .args .rows .now) (c .before .args .n) (c .if1 .taken)

@@ -3,12 +3,6 @@ use native.Mathlib.Omega.{arith}
 use borrow.Author.Needs.{needs}
 use Rattle.passes.proofs.dropping.drop_unused_labels.Statement.{statement}
 use Rattle.passes.proofs.dropping.drop_unused_labels.Tie as tie
-use Rattle.passes.proofs.dropping.drop_unused_labels.Reads as reads
-use Rattle.passes.proofs.dropping.drop_unused_labels.Lts as lts
-use Rattle.passes.proofs.dropping.count_rows.Reads as count-rows-reads
-use Rattle.passes.proofs.dropping.gather.Reads as gather-reads
-use Rattle.outline.proofs.forming.clear.Reads as clear-reads
-use Rattle.outline.proofs.spans.note.Reads as note-reads
 
 note-requires : tie.Need-note-requires
 note-requires c κs = search needs

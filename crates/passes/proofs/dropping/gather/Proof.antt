@@ -7,11 +7,6 @@ use native.Mathlib.Omega.{arith}
 use borrow.Author.Needs.{needs}
 use Rattle.passes.proofs.dropping.gather.Statement.{statement}
 use Rattle.passes.proofs.dropping.gather.Tie as tie
-use Rattle.passes.proofs.dropping.gather.Reads as reads
-use Rattle.passes.proofs.dropping.gather.Lts as lts
-use Rattle.passes.proofs.dropping.is_kept.Reads as is-kept-reads
-use Rattle.passes.proofs.dropping.place.Reads as place-reads
-use Rattle.outline.proofs.rows.row_at.Reads as row-at-reads
 
 abbrev Inv-loop : tie.InvT-loop
 Inv-loop rows₀ spans n m c₀ i₀ rows c i = (c ≤ i) × (i ≤ m) × (length rows ≡ length rows₀) × (gatherFrom (keptRow spans n) rows₀ 0 m 0 ≡ gatherFrom (keptRow spans n) rows i (m - i) c)

@@ -2,10 +2,6 @@ use Rattle.passes.proofs.Gathering.{keep-other, keep-label}
 use borrow.Author.Needs.{needs}
 use Rattle.passes.proofs.dropping.is_kept.Statement.{statement}
 use Rattle.passes.proofs.dropping.is_kept.Tie as tie
-use Rattle.passes.proofs.dropping.is_kept.Reads as reads
-use Rattle.passes.proofs.dropping.is_kept.Lts as lts
-use Rattle.outline.proofs.rows.kind_of.Reads as kind-of-reads
-use Rattle.outline.proofs.spans.aimed_out.Reads as aimed-out-reads
 
 kind-of-requires : tie.Need-kind-of-requires
 kind-of-requires c κs = search needs

@@ -2,8 +2,6 @@ use Rattle.passes.proofs.Gathering.{place-yes, place-no}
 use borrow.Author.Needs.{needs}
 use Rattle.passes.proofs.dropping.place.Statement.{statement}
 use Rattle.passes.proofs.dropping.place.Tie as tie
-use Rattle.passes.proofs.dropping.place.Reads as reads
-use Rattle.passes.proofs.dropping.place.Lts as lts
 
 mul-rows : tie.Need-mul-rows
 mul-rows c = search needs

@@ -5,10 +5,6 @@ use Prim.Native.Nat.{_-_}
 use borrow.Author.Needs.{needs}
 use Rattle.passes.proofs.ifs.find_label.Statement.{statement}
 use Rattle.passes.proofs.ifs.find_label.Tie as tie
-use Rattle.passes.proofs.ifs.find_label.Reads as reads
-use Rattle.passes.proofs.ifs.find_label.Lts as lts
-use Rattle.outline.proofs.rows.judge.Reads as judge-reads
-use Rattle.outline.proofs.rows.row_at.Reads as row-at-reads
 
 abbrev Inv-loop : tie.InvT-loop
 Inv-loop rows n i m d j₀ j = labelFrom n m d rows i (n - i) ≡ labelFrom n m d rows j (n - j)

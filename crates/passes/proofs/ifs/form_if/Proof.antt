@@ -6,13 +6,6 @@ use native.Mathlib.Omega.{arith}
 use borrow.Author.Needs.{needs}
 use Rattle.passes.proofs.ifs.form_if.Statement.{statement}
 use Rattle.passes.proofs.ifs.form_if.Tie as tie
-use Rattle.passes.proofs.ifs.form_if.Reads as reads
-use Rattle.passes.proofs.ifs.form_if.Lts as lts
-use Rattle.outline.proofs.forming.insert_row.Reads as insert-row-reads
-use Rattle.outline.proofs.forming.raise.Reads as raise-reads
-use Rattle.outline.proofs.forming.turn.Reads as turn-reads
-use Rattle.outline.proofs.rows.indent_of.Reads as indent-of-reads
-use Rattle.outline.proofs.rows.row_at.Reads as row-at-reads
 
 row-at-requires : tie.Need-row-at-requires
 row-at-requires c κs = search needs

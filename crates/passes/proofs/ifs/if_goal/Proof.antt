@@ -2,14 +2,6 @@ use Rattle.passes.proofs.Goals.{if-no, if-none, if-next, if-reached, if
 use borrow.Author.Needs.{needs}
 use Rattle.passes.proofs.ifs.if_goal.Statement.{statement}
 use Rattle.passes.proofs.ifs.if_goal.Tie as tie
-use Rattle.passes.proofs.ifs.if_goal.Reads as reads
-use Rattle.passes.proofs.ifs.if_goal.Lts as lts
-use Rattle.passes.proofs.ifs.find_label.Reads as find-label-reads
-use Rattle.outline.proofs.rows.indent_of.Reads as indent-of-reads
-use Rattle.outline.proofs.rows.kind_of.Reads as kind-of-reads
-use Rattle.outline.proofs.rows.name_of.Reads as name-of-reads
-use Rattle.outline.proofs.rows.row_at.Reads as row-at-reads
-use Rattle.outline.proofs.spans.reached.Reads as reached-reads
 
 row-at-requires : tie.Need-row-at-requires
 row-at-requires c κs = search needs

@@ -2,10 +2,6 @@ use Rattle.passes.proofs.Turns.{if-pass}
 use borrow.Author.Needs.{needs}
 use Rattle.passes.proofs.ifs.structure_ifs.Statement.{statement}
 use Rattle.passes.proofs.ifs.structure_ifs.Tie as tie
-use Rattle.passes.proofs.ifs.structure_ifs.Reads as reads
-use Rattle.passes.proofs.ifs.structure_ifs.Lts as lts
-use Rattle.passes.proofs.ifs.sweep_ifs.Reads as sweep-ifs-reads
-use Rattle.outline.proofs.spans.note.Reads as note-reads
 
 note-requires : tie.Need-note-requires
 note-requires c κs = search needs

@@ -7,9 +7,6 @@ use native.Mathlib.Omega.{arith}
 use borrow.Author.Needs.{needs}
 use Rattle.passes.proofs.ifs.sweep_ifs.Statement.{statement}
 use Rattle.passes.proofs.ifs.sweep_ifs.Tie as tie
-use Rattle.passes.proofs.ifs.sweep_ifs.Reads as reads
-use Rattle.passes.proofs.ifs.sweep_ifs.Lts as lts
-use Rattle.passes.proofs.ifs.try_if.Reads as try-if-reads
 
 abbrev Inv-loop : tie.InvT-loop
 Inv-loop rows₀ spans₀ n rest₀ regions₀ k₀ rows spans rest regions k = (rest ≤ length rows₀ + n) × (rest ≤ 18446744073709551615) × (regions ≤ k) × (length rows ≡ length rows₀) × (length spans ≡ length spans₀)

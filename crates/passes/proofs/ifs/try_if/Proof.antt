@@ -4,12 +4,6 @@ use native.Mathlib.Omega.{arith}
 use borrow.Author.Needs.{needs}
 use Rattle.passes.proofs.ifs.try_if.Statement.{statement}
 use Rattle.passes.proofs.ifs.try_if.Tie as tie
-use Rattle.passes.proofs.ifs.try_if.Reads as reads
-use Rattle.passes.proofs.ifs.try_if.Lts as lts
-use Rattle.outline.proofs.forming.deep_in.Reads as deep-in-reads
-use Rattle.passes.proofs.ifs.form_if.Reads as form-if-reads
-use Rattle.passes.proofs.ifs.if_goal.Reads as if-goal-reads
-use Rattle.outline.proofs.spans.note.Reads as note-reads
 
 if-goal-requires : tie.Need-if-goal-requires
 if-goal-requires c κs = search needs

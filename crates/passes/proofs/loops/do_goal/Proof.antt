@@ -4,15 +4,6 @@ use native.Mathlib.Omega.{arith}
 use borrow.Author.Needs.{needs}
 use Rattle.passes.proofs.loops.do_goal.Statement.{statement}
 use Rattle.passes.proofs.loops.do_goal.Tie as tie
-use Rattle.passes.proofs.loops.do_goal.Reads as reads
-use Rattle.passes.proofs.loops.do_goal.Lts as lts
-use Rattle.passes.proofs.loops.last_back.Reads as last-back-reads
-use Rattle.outline.proofs.rows.indent_of.Reads as indent-of-reads
-use Rattle.outline.proofs.rows.kind_of.Reads as kind-of-reads
-use Rattle.outline.proofs.rows.name_of.Reads as name-of-reads
-use Rattle.outline.proofs.rows.row_at.Reads as row-at-reads
-use Rattle.outline.proofs.spans.is_outside.Reads as is-outside-reads
-use Rattle.outline.proofs.spans.reached.Reads as reached-reads
 
 row-at-requires : tie.Need-row-at-requires
 row-at-requires c κs = search needs

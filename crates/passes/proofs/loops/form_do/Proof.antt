@@ -5,12 +5,6 @@ use native.Mathlib.Omega.{arith}
 use borrow.Author.Needs.{needs}
 use Rattle.passes.proofs.loops.form_do.Statement.{statement}
 use Rattle.passes.proofs.loops.form_do.Tie as tie
-use Rattle.passes.proofs.loops.form_do.Reads as reads
-use Rattle.passes.proofs.loops.form_do.Lts as lts
-use Rattle.outline.proofs.forming.raise.Reads as raise-reads
-use Rattle.outline.proofs.forming.turn.Reads as turn-reads
-use Rattle.outline.proofs.forming.up.Reads as up-reads
-use Rattle.outline.proofs.rows.row_at.Reads as row-at-reads
 
 row-at-requires : tie.Need-row-at-requires
 row-at-requires c κs = search needs

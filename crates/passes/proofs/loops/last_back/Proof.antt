@@ -5,11 +5,6 @@ use Prim.Native.Nat.{_-_}
 use borrow.Author.Needs.{needs}
 use Rattle.passes.proofs.loops.last_back.Statement.{statement}
 use Rattle.passes.proofs.loops.last_back.Tie as tie
-use Rattle.passes.proofs.loops.last_back.Reads as reads
-use Rattle.passes.proofs.loops.last_back.Lts as lts
-use Rattle.passes.proofs.loops.later.Reads as later-reads
-use Rattle.outline.proofs.rows.judge_back.Reads as judge-back-reads
-use Rattle.outline.proofs.rows.row_at.Reads as row-at-reads
 
 abbrev Inv-loop : tie.InvT-loop
 Inv-loop rows n i m d last₀ j₀ last j = backFrom n m d rows i (n - i) ≡ unlessLater n last (backFrom n m d rows j (n - j))

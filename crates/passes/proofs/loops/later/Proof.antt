@@ -1,8 +1,6 @@
 use borrow.Author.Tests.{eq-eqb, ne-eqb}
 use Rattle.passes.proofs.loops.later.Statement.{statement}
 use Rattle.passes.proofs.loops.later.Tie as tie
-use Rattle.passes.proofs.loops.later.Reads as reads
-use Rattle.passes.proofs.loops.later.Lts as lts
 
 returns : tie.Need-returns
 returns c = simp (eq-eqb _ 1 (c .if1 .taken))

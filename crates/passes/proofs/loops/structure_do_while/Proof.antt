@@ -2,10 +2,6 @@ use Rattle.passes.proofs.Turns.{do-pass}
 use borrow.Author.Needs.{needs}
 use Rattle.passes.proofs.loops.structure_do_while.Statement.{statement}
 use Rattle.passes.proofs.loops.structure_do_while.Tie as tie
-use Rattle.passes.proofs.loops.structure_do_while.Reads as reads
-use Rattle.passes.proofs.loops.structure_do_while.Lts as lts
-use Rattle.passes.proofs.loops.sweep_do.Reads as sweep-do-reads
-use Rattle.outline.proofs.spans.note.Reads as note-reads
 
 note-requires : tie.Need-note-requires
 note-requires c κs = search needs

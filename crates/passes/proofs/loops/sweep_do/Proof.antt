@@ -7,9 +7,6 @@ use native.Mathlib.Omega.{arith}
 use borrow.Author.Needs.{needs}
 use Rattle.passes.proofs.loops.sweep_do.Statement.{statement}
 use Rattle.passes.proofs.loops.sweep_do.Tie as tie
-use Rattle.passes.proofs.loops.sweep_do.Reads as reads
-use Rattle.passes.proofs.loops.sweep_do.Lts as lts
-use Rattle.passes.proofs.loops.try_do.Reads as try-do-reads
 
 abbrev Inv-loop : tie.InvT-loop
 Inv-loop rows₀ spans₀ n regions₀ k₀ rows spans regions k = (regions ≤ k) × (length rows ≡ length rows₀) × (length spans ≡ length spans₀)

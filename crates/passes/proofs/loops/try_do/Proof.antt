@@ -4,12 +4,6 @@ use native.Mathlib.Omega.{arith}
 use borrow.Author.Needs.{needs}
 use Rattle.passes.proofs.loops.try_do.Statement.{statement}
 use Rattle.passes.proofs.loops.try_do.Tie as tie
-use Rattle.passes.proofs.loops.try_do.Reads as reads
-use Rattle.passes.proofs.loops.try_do.Lts as lts
-use Rattle.outline.proofs.forming.deep_in.Reads as deep-in-reads
-use Rattle.passes.proofs.loops.do_goal.Reads as do-goal-reads
-use Rattle.passes.proofs.loops.form_do.Reads as form-do-reads
-use Rattle.outline.proofs.spans.note.Reads as note-reads
 
 do-goal-requires : tie.Need-do-goal-requires
 do-goal-requires c κs = search needs

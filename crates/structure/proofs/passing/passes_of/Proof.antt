@@ -2,11 +2,6 @@ use Rattle.structure.proofs.Running.{ifs-refused, loops-refused, all-le
 use borrow.Author.Needs.{needs}
 use Rattle.structure.proofs.passing.passes_of.Statement.{statement}
 use Rattle.structure.proofs.passing.passes_of.Tie as tie
-use Rattle.structure.proofs.passing.passes_of.Reads as reads
-use Rattle.structure.proofs.passing.passes_of.Lts as lts
-use Rattle.passes.proofs.dropping.drop_unused_labels.Reads as drop-unused-labels-reads
-use Rattle.passes.proofs.ifs.structure_ifs.Reads as structure-ifs-reads
-use Rattle.passes.proofs.loops.structure_do_while.Reads as structure-do-while-reads
 
 structure-ifs-requires : tie.Need-structure-ifs-requires
 structure-ifs-requires c κs = search needs

@@ -2,9 +2,6 @@ use Rattle.structure.proofs.Running.{cleared}
 use borrow.Author.Needs.{needs}
 use Rattle.structure.proofs.passing.wipe.Statement.{statement}
 use Rattle.structure.proofs.passing.wipe.Tie as tie
-use Rattle.structure.proofs.passing.wipe.Reads as reads
-use Rattle.structure.proofs.passing.wipe.Lts as lts
-use Rattle.outline.proofs.forming.clear.Reads as clear-reads
 
 clear-requires : tie.Need-clear-requires
 clear-requires c κs = search needs

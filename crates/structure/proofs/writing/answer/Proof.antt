@@ -2,9 +2,6 @@ use Rattle.structure.proofs.Sheeted.{answered-deep, answered-left, head
 use borrow.Author.Needs.{needs}
 use Rattle.structure.proofs.writing.answer.Statement.{statement}
 use Rattle.structure.proofs.writing.answer.Tie as tie
-use Rattle.structure.proofs.writing.answer.Reads as reads
-use Rattle.structure.proofs.writing.answer.Lts as lts
-use Rattle.structure.proofs.writing.write.Reads as write-reads
 
 enum-known-passes : tie.Need-enum-known-passes
 enum-known-passes c = search needs

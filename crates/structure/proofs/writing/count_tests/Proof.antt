@@ -7,12 +7,6 @@ use native.Mathlib.Omega.{arith}
 use borrow.Author.Needs.{needs}
 use Rattle.structure.proofs.writing.count_tests.Statement.{statement}
 use Rattle.structure.proofs.writing.count_tests.Tie as tie
-use Rattle.structure.proofs.writing.count_tests.Reads as reads
-use Rattle.structure.proofs.writing.count_tests.Lts as lts
-use Rattle.sheet.proofs.lines.first_of.Reads as first-of-reads
-use Rattle.sheet.proofs.lines.last_of.Reads as last-of-reads
-use Rattle.sorts.proofs.lines.is_if.Reads as is-if-reads
-use Rattle.structure.proofs.writing.one_if.Reads as one-if-reads
 
 abbrev Inv-loop : tie.InvT-loop
 Inv-loop lines tokens text n c₀ i₀ c i = (tests (linesIn lines tokens text n) ≡ c + testsFrom lines tokens text i n) × (i ≤ n) × (c ≤ i)

@@ -2,11 +2,6 @@ use Rattle.structure.proofs.Sheeted.{written-whole}
 use borrow.Author.Needs.{needs}
 use Rattle.structure.proofs.writing.write.Statement.{statement}
 use Rattle.structure.proofs.writing.write.Tie as tie
-use Rattle.structure.proofs.writing.write.Reads as reads
-use Rattle.structure.proofs.writing.write.Lts as lts
-use Rattle.finish.proofs.finish.Reads as finish-reads
-use Rattle.room.proofs.out.Out.start.Reads as start-reads
-use Rattle.structure.proofs.writing.count_tests.Reads as count-tests-reads
 
 start-requires : tie.Need-start-requires
 start-requires c κs = search needs

@@ -3,11 +3,6 @@ use Rattle.digits.proofs.Leaves.{leaf-as}
 use borrow.Author.Needs.{needs}
 use Rattle.text.proofs.names.global_name.Statement.{statement}
 use Rattle.text.proofs.names.global_name.Tie as tie
-use Rattle.text.proofs.names.global_name.Reads as reads
-use Rattle.text.proofs.names.global_name.Lts as lts
-use Rattle.text.proofs.names.name_for.Reads as name-for-reads
-use Rattle.text.proofs.names.name_text.Reads as name-text-reads
-use Rattle.text.proofs.names.unnamed.Reads as unnamed-reads
 
 name-for-requires : tie.Need-name-for-requires
 name-for-requires c κs = search needs

@@ -1,8 +1,6 @@
 use Rattle.text.proofs.Lookups.{global-low, global-high}
 use Rattle.text.proofs.names.is_global.Statement.{statement}
 use Rattle.text.proofs.names.is_global.Tie as tie
-use Rattle.text.proofs.names.is_global.Reads as reads
-use Rattle.text.proofs.names.is_global.Lts as lts
 
 returns : tie.Need-returns
 returns c = global-low _ (c .if1 .taken)

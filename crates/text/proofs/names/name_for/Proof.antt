@@ -5,10 +5,6 @@ use Prim.Native.Nat.{_-_}
 use mathlib.Core.Path.{_≡_}
 use Rattle.text.proofs.names.name_for.Statement.{statement}
 use Rattle.text.proofs.names.name_for.Tie as tie
-use Rattle.text.proofs.names.name_for.Reads as reads
-use Rattle.text.proofs.names.name_for.Lts as lts
-use Rattle.records.proofs.contents.name_long.Reads as name-long-reads
-use Rattle.records.proofs.contents.size_of.Reads as size-of-reads
 
 abbrev Inv-loop : tie.InvT-loop
 Inv-loop f a n i₀ i = nameIndex f a ≡ indexFrom f a i (n - i)

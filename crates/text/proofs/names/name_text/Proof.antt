@@ -3,10 +3,6 @@ use Rattle.digits.proofs.Leaves.{leaf-as}
 use borrow.Author.Needs.{needs}
 use Rattle.text.proofs.names.name_text.Statement.{statement}
 use Rattle.text.proofs.names.name_text.Tie as tie
-use Rattle.text.proofs.names.name_text.Reads as reads
-use Rattle.text.proofs.names.name_text.Lts as lts
-use Rattle.records.proofs.contents.name_word.Reads as name-word-reads
-use Rattle.text.proofs.names.text_part.Reads as text-part-reads
 
 name-word-requires : tie.Need-name-word-requires
 name-word-requires c κs = search needs

@@ -4,10 +4,6 @@ use Rattle.digits.proofs.Leaves.{leaf-as}
 use borrow.Author.Needs.{needs}
 use Rattle.text.proofs.names.text_part.Statement.{statement}
 use Rattle.text.proofs.names.text_part.Tie as tie
-use Rattle.text.proofs.names.text_part.Reads as reads
-use Rattle.text.proofs.names.text_part.Lts as lts
-use Rattle.records.proofs.contents.offset_of.Reads as offset-of-reads
-use Rattle.digits.proofs.leaf.copy_part.Reads as copy-part-reads
 
 offset-of-requires : tie.Need-offset-of-requires
 offset-of-requires c κs = search needs

@@ -3,9 +3,6 @@ use Rattle.digits.proofs.Leaves.{leaf-as}
 use borrow.Author.Needs.{needs}
 use Rattle.text.proofs.names.unnamed.Statement.{statement}
 use Rattle.text.proofs.names.unnamed.Tie as tie
-use Rattle.text.proofs.names.unnamed.Reads as reads
-use Rattle.text.proofs.names.unnamed.Lts as lts
-use Rattle.digits.proofs.numbers.behind.Reads as behind-reads
 
 slice-aggregate-behind : tie.Need-slice-aggregate-behind
 slice-aggregate-behind c = search needs

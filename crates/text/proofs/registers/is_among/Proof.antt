@@ -6,8 +6,6 @@ use Prim.Native.Nat.{_-_}
 use mathlib.Core.Path.{_≡_, refl, sym, _∙_}
 use Rattle.text.proofs.registers.is_among.Statement.{statement}
 use Rattle.text.proofs.registers.is_among.Tie as tie
-use Rattle.text.proofs.registers.is_among.Reads as reads
-use Rattle.text.proofs.registers.is_among.Lts as lts
 
 abbrev Inv-loop : tie.InvT-loop
 Inv-loop v s i₀ i = among v s ≡ among v (drop i s)

@@ -2,9 +2,6 @@ use Rattle.definition.specs.Registers.{calleeSaved}
 use borrow.Author.Needs.{needs}
 use Rattle.text.proofs.registers.Register.callee_saved.Statement.{statement}
 use Rattle.text.proofs.registers.Register.callee_saved.Tie as tie
-use Rattle.text.proofs.registers.Register.callee_saved.Reads as reads
-use Rattle.text.proofs.registers.Register.callee_saved.Lts as lts
-use Rattle.text.proofs.registers.is_among.Reads as is-among-reads
 
 slice-aggregate-is-among : tie.Need-slice-aggregate-is-among
 slice-aggregate-is-among c = search needs

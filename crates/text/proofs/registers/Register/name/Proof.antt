@@ -5,9 +5,6 @@ use mathlib.Core.Logic.{⊎-elim}
 use borrow.Author.Needs.{needs}
 use Rattle.text.proofs.registers.Register.name.Statement.{statement}
 use Rattle.text.proofs.registers.Register.name.Tie as tie
-use Rattle.text.proofs.registers.Register.name.Reads as reads
-use Rattle.text.proofs.registers.Register.name.Lts as lts
-use Rattle.digits.proofs.leaf.copy_part.Reads as copy-part-reads
 
 cast-at : tie.Need-cast-at
 cast-at c = search needs
