@@ -6,6 +6,7 @@ use mathlib.Core.List.{List, _++_, map}
 use Prim.Native.Nat.{ℕ, _+_, _<_}
 use lib.ListN.{length, getD}
 use mir.Syntax.{w8}
+use mir.Val.{Fits as Bounded}
 use Rattle.words.proofs.Laws.{word-small}
 use Rattle.definition.specs.Edition.{Edition, statements}
 use Rattle.definition.specs.Lists.{range}
@@ -28,6 +29,7 @@ use Rattle.sums.proofs.Naming.{stmt-inside}
 use Rattle.flags.specs.Views.{codeEnum, viewCode, viewSetter, sideOf, signOf, printed, shownRecord, shownBy, shownOf, setting, viewSetting}
 use Rattle.flags.specs.declared.codes.Code.{Code}
 use Rattle.flags.specs.declared.comparison.Operands.{Operands}
+use Rattle.flags.specs.declared.comparison.Setter.the-variants.{Result as ByResult}
 use Rattle.flags.specs.declared.comparison.Setting.{Setting}
 use Rattle.flags.specs.declared.comparison.Setting.the-variants.{Nothing as NotSet, Operands as SetBy, Result}
 use Rattle.flags.specs.declared.comparison.Shown.{Shown}

@@ -12,6 +12,7 @@ use Rattle.definition.specs.Contents.{size}
 use Rattle.definition.specs.Owners.{exprItems, valueItems, firstItem}
 use Rattle.definition.specs.Values.{Value, eqv}
 use Rattle.definition.specs.Meaning.{phiValue, assigned, callReturns, itemValues, strict, loose, definedOnce}
+use Rattle.defined.specs.declared.value.Value.{Value as CValue}
 use Rattle.defined.specs.declared.value.Defined.{Defined}
 use Rattle.defined.specs.declared.value.Defined.the-variants.{Nothing, One}
 use Rattle.defined.specs.Defined.{valueOf, listOf, lone, itemValue, firstValue, hit, phiHits, itemHits, stmtHits, hits}

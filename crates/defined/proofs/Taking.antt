@@ -12,6 +12,7 @@ use Rattle.definition.specs.Lists.{gather, range}
 use Rattle.definition.specs.Contents.{size}
 use Rattle.definition.specs.Values.{Value}
 use Rattle.definition.specs.Meaning.{phiValue, assigned, strict}
+use Rattle.defined.specs.declared.value.Value.{Value as CValue}
 use Rattle.defined.specs.declared.value.Defined.{Defined}
 use Rattle.defined.specs.declared.value.Defined.the-variants.{Nothing, One}
 use Rattle.defined.specs.Defined.{valueOf, listOf}

@@ -10,6 +10,7 @@ use Rattle.definition.specs.Owners.{exprItems, valueItems, firstItem}
 use Rattle.definition.specs.Values.{Value}
 use Rattle.definition.specs.Meaning.{phiValue, assigned, callReturns, itemValues, strict, loose}
 use Rattle.defined.specs.Defined.{valueOf, listOf, itemValue, firstValue}
+use Rattle.defined.specs.declared.value.Value.{Value as CValue}
 use Rattle.defined.specs.declared.value.Defined.{Defined}
 use Rattle.defined.specs.declared.value.Defined.the-variants.{Nothing, One}
 use Rattle.records.proofs.Also.{also, also-stop, also-go}

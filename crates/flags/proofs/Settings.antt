@@ -20,6 +20,8 @@ use Rattle.definition.proofs.Bools.{by-cond}
 use Rattle.ssa.proofs.Views.{through}
 use Rattle.statements.specs.Statement.{assignRecord, storeRecord, callRecord, branchRecord, flagsRecord, returnRecord, otherRecord, kindRecord, stmtRecord}
 use Rattle.statements.specs.View.{viewKind}
+use Rattle.statements.specs.declared.statement.Assign.{Assign as AssignS}
+use Rattle.statements.specs.declared.statement.Flags.{Flags as FlagsS}
 use Rattle.statements.specs.declared.statement.Stmt.{Stmt}
 use Rattle.statements.specs.declared.statement.Kind.{Kind}
 use Rattle.statements.proofs.statement.Kind.{the-type}

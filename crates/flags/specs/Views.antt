@@ -7,6 +7,7 @@ use Rattle.definition.specs.Edition.{Edition}
 use Rattle.definition.specs.Owners.{stmtField}
 use Rattle.definition.specs.Values.{value}
 use Rattle.definition.specs.Ssa.{Expr}
+use Rattle.definition.specs.Ssa.Expr.{Use as DUse}
 use Rattle.definition.specs.Read.{treeAt, allTrees}
 use Rattle.definition.specs.Condition as D
 use Rattle.flags.specs.declared.codes.Code.{Code}

@@ -5,6 +5,7 @@ use Prim.Native.Nat.{ℕ}
 use Rattle.definition.specs.Edition.{edition1}
 use Rattle.definition.specs.Contents.{blockWord, blockLong}
 use Rattle.definition.specs.Owners.{firstPhi, firstStmt}
+use Rattle.definition.specs.Ssa.{Block as DBlock}
 use Rattle.definition.specs.Read.{when, blockAt}
 use Rattle.ssa.specs.Block.{blockRecord}
 use Rattle.ssa.specs.View.{viewDestination, viewBlock}

@@ -21,6 +21,7 @@ use Rattle.definition.specs.Listing.{padded}
 use Rattle.records.proofs.Ranges.{map-map}
 use Rattle.ssa.specs.Block.{blockRecord}
 use Rattle.ssa.specs.View.{viewDestination}
+use Rattle.ssa.specs.declared.block.Block.{Block as BlockS}
 use Rattle.values.specs.Tables.{at}
 use Rattle.values.proofs.Ranges.{at-left, map-length, at-below}
 use Rattle.marks.specs.Labels.{startAt, nextAt, Labels}

@@ -8,6 +8,7 @@ use Rattle.definition.specs.Edition.{Edition}
 use Rattle.definition.specs.Contents.{text, blockLong}
 use Rattle.definition.specs.Lists.{orElse}
 use Rattle.definition.specs.Owners.{stmtField}
+use Rattle.definition.specs.Numbers.{label as labelOf}
 use Rattle.definition.specs.Tokens.{Token, Line, tok, symbol}
 use Rattle.definition.specs.Lower.{gotoTokens}
 use Rattle.definition.specs.Blocks.{closing as closingOf, labelLine}

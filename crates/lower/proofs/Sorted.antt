@@ -23,7 +23,10 @@ use Rattle.definition.proofs.Bools.{by-test, by-cond, both-true}
 use Rattle.records.proofs.Below.{all-fail}
 use Rattle.statements.specs.Statement.{kindNumber, stmtRecord}
 use Rattle.statements.specs.View.{viewKind, viewStmt}
+use Rattle.statements.specs.declared.statement.Flags.{Flags as FlagsS}
+use Rattle.statements.specs.declared.statement.Kind.{Kind as KindS}
 use Rattle.statements.specs.declared.statement.Kind.the-variants.{Flags}
+use Rattle.statements.specs.declared.statement.Stmt.{Stmt as StmtS}
 use Rattle.statements.proofs.Views.{stmt-owned, kind-number}
 use Rattle.inline.specs.Placing.{behind}
 use Rattle.naming.proofs.Small.{parts-below}

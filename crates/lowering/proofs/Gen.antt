@@ -11,7 +11,10 @@ use Rattle.definition.specs.Words.{word}
 use Rattle.definition.specs.Contents.{size}
 use Rattle.definition.specs.Shape.{owned}
 use Rattle.definition.specs.Values.{Value}
+use Rattle.definition.specs.Meaning.{bits as bitsOf}
 use Rattle.definition.specs.Read.{treeAt, allTrees, read}
+use Rattle.definition.specs.Offsets.{offsets as offsetsOf}
+use Rattle.definition.specs.Classes.{classes as classesOf}
 use Rattle.definition.specs.Inline.{InPlace, readsOf, inline}
 use Rattle.definition.specs.Names.{Named, naming, nameIn}
 use Rattle.definition.specs.Registers.{regName}

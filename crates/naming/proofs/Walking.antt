@@ -11,6 +11,7 @@ use Rattle.definition.specs.Owners.{exprItems, valueItems, phiInputs, firstInpu
 use Rattle.definition.specs.Values.{Value, value}
 use Rattle.definition.specs.Meaning.{phiValue, assigned, callReturns}
 use Rattle.definition.specs.Read.{marked}
+use Rattle.defined.specs.declared.value.Value.{Value as Value′}
 use Rattle.defined.specs.declared.value.Defined.{Defined}
 use Rattle.defined.specs.declared.value.Defined.the-variants.{Nothing, One}
 use Rattle.defined.specs.Defined.{valueOf, listOf, itemValue}

@@ -3,6 +3,7 @@ use mathlib.Core.Path.{_≡_}
 use mathlib.Core.List.{List}
 use Prim.Native.Nat.{ℕ}
 use Rattle.definition.specs.Edition.{Edition}
+use Rattle.definition.specs.Read.{read as function}
 use Rattle.definition.specs.Classes.{find, classes}
 use Rattle.values.specs.Keys.{keyOf, keyed}
 use Rattle.values.specs.Tables.{numberOf, table}

@@ -19,9 +19,13 @@ use Rattle.values.specs.Keys.{valueOf, keyed}
 use Rattle.values.specs.Tables.{at}
 use Rattle.sums.specs.Ground.{Ground}
 use Rattle.sums.proofs.Naming.{some-edition, expr-inside}
+use Rattle.ssa.specs.declared.node.Bin.{Bin as BinS}
+use Rattle.ssa.specs.declared.node.Un.{Un as UnS}
+use Rattle.ssa.specs.declared.node.Load.{Load as LoadS}
 use Rattle.room.specs.declared.out.Out.{Out}
 use Rattle.room.specs.Room.{Room, roomOf, isFull, emit, emitAll, seen}
 use Rattle.room.proofs.Laws.{next, more, full-stays, one}
+use Rattle.render.specs.declared.form.Leaf.{Leaf as LeafS}
 use Rattle.render.specs.declared.form.Form.{Form}
 use Rattle.render.specs.declared.form.Form.the-variants.{Leaf, Use, Bin, Un, Through}
 use Rattle.render.specs.Gens.{rendered, used}

@@ -22,12 +22,16 @@ use Rattle.records.proofs.Trees.{tree-lower, tree-past}
 use Rattle.values.specs.Tables.{table}
 use Rattle.text.specs.Supplied.{isGlobal, globalText}
 use Rattle.text.proofs.Lookups.{global-is}
+use Rattle.ssa.specs.declared.node.Bin.{Bin as BinS}
+use Rattle.ssa.specs.declared.node.Un.{Un as UnS}
+use Rattle.ssa.specs.declared.node.Load.{Load as LoadS}
 use Rattle.ssa.specs.declared.node.Node.{Node}
 use Rattle.ssa.specs.declared.node.Node.the-variants.{Const, Use as UseN, Bin as BinN, Un as UnN, Load, Opaque as OpaqueN}
 use Rattle.ssa.specs.declared.parts.Text.{Text}
 use Rattle.ssa.specs.Node.{useRecord, nodeRecord, nodeTag}
 use Rattle.ssa.specs.View.{viewNode}
 use Rattle.ssa.proofs.Views.{node-view}
+use Rattle.defined.specs.declared.value.Value.{Value as ValueS}
 use Rattle.render.specs.declared.form.Leaf.the-variants.{Number, Address, Global, Slot, Opaque}
 use Rattle.render.specs.declared.form.Form.{Form}
 use Rattle.render.specs.declared.form.Form.the-variants.{Leaf, Use, Bin, Un, Through}

@@ -16,6 +16,7 @@ use Rattle.room.specs.Room.{Room, emit, emitAll, seen}
 use Rattle.room.proofs.Laws.{next, done, joined, one}
 use Rattle.render.specs.declared.form.Leaf.{Leaf}
 use Rattle.render.specs.declared.form.Leaf.the-variants.{Number, Address, Global, Slot, Opaque}
+use Rattle.render.specs.declared.form.Global.{Global as GlobalS}
 use Rattle.render.specs.Forms.{addressTokens, castTokens, opening, closing, leafTokens}
 
 two : (r₂ r₁ r₀ : Room) (p q : Token) → r₁ ≡ emit r₀ p → r₂ ≡ emit r₁ q → seen r₂ ≡ seen (emitAll r₀ (p ∷ q ∷ []))

@@ -14,10 +14,13 @@ use Rattle.definition.specs.Numbers.{num, slot}
 use Rattle.definition.specs.Tokens.{Token, textual, register, numeral, symbol, punct}
 use Rattle.definition.specs.Render.{nested, pointer, through, operator}
 use Rattle.text.specs.Supplied.{isGlobal, globalText}
+use Rattle.ssa.specs.declared.node.Bin.{Bin as BinS}
+use Rattle.ssa.specs.declared.node.Load.{Load as LoadS}
 use Rattle.ssa.specs.declared.node.Node.{Node}
 use Rattle.ssa.specs.declared.node.Node.the-variants.{Const, Use as UseN, Bin as BinN, Un as UnN, Load, Opaque as OpaqueN}
 use Rattle.ssa.specs.Node.{nodeRecord}
 use Rattle.render.specs.Gens.{rendered, used}
+use Rattle.render.specs.declared.form.Leaf.{Leaf as LeafS}
 use Rattle.render.specs.declared.form.Leaf.the-variants.{Number, Address, Global, Slot, Opaque}
 use Rattle.render.specs.declared.form.Form.{Form}
 use Rattle.render.specs.declared.form.Form.the-variants.{Leaf, Use, Bin, Un, Through}

@@ -11,6 +11,7 @@ use borrow.Author.Tests.{ltb-false, lt-ltb, le-ltb, le-leb, lt-leb, eqb-true}
 use lib.Dec.{eqb, ltb}
 use lib.ListN.{length, getD, set, length-append, List·getD-append}
 use lib.Seq.{append-snoc, getD-at}
+use Rattle.definition.specs.Edition.{Room as Limits}
 use Rattle.definition.specs.Lists.{gather}
 use Rattle.definition.specs.Tokens.{Token, Line, joins, textOf}
 use Rattle.definition.specs.Listing.{hasAddress, addressOf, tokenCount, byteCount, refused8, lineNumbers, lineWords, tokenWords, tokensOf, padded}

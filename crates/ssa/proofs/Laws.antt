@@ -7,6 +7,7 @@ use lib.Dec.{eqb}
 use borrow.Author.Tests.{ne-eqb}
 use Rattle.definition.specs.Contents.{phiWord, exprWord, exprLong}
 use Rattle.definition.specs.Owners.{phiInputs}
+use Rattle.definition.specs.Values.{Value as DValue}
 use Rattle.definition.specs.Meaning.{phiValue}
 use Rattle.defined.specs.declared.value.Value.{Value}
 use Rattle.defined.specs.Defined.{valueOf}
@@ -14,6 +15,9 @@ use Rattle.ssa.specs.Block.{phiRecord}
 use Rattle.ssa.specs.Node.{textRecord, useRecord, binRecord, unRecord, loadRecord, nodeRecord}
 use Rattle.ssa.specs.declared.parts.Text.{Text}
 use Rattle.ssa.specs.declared.block.Phi.{Phi}
+use Rattle.ssa.specs.declared.node.Bin.{Bin as BinS}
+use Rattle.ssa.specs.declared.node.Un.{Un as UnS}
+use Rattle.ssa.specs.declared.node.Load.{Load as LoadS}
 use Rattle.ssa.specs.declared.node.Node.the-variants.{Const, Use, Bin, Un, Load, Opaque}
 
 -- ---- a phi

@@ -7,6 +7,9 @@ use Rattle.definition.specs.Codes.{tConst, tUse, tBin, tUn, tLoad, tOpaque}
 use Rattle.definition.specs.Contents.{exprWord, exprLong}
 use Rattle.defined.specs.declared.value.Value.{Value}
 use Rattle.ssa.specs.declared.parts.Text.{Text}
+use Rattle.ssa.specs.declared.node.Bin.{Bin as BinS}
+use Rattle.ssa.specs.declared.node.Un.{Un as UnS}
+use Rattle.ssa.specs.declared.node.Load.{Load as LoadS}
 use Rattle.ssa.specs.declared.node.Node.{Node}
 use Rattle.ssa.specs.declared.node.Node.the-variants.{Const, Use, Bin, Un, Load, Opaque}
 

@@ -7,6 +7,13 @@ use borrow.Author.Tests.{le-leb, lt-leb, ne-eqb}
 use Rattle.definition.specs.Owners.{stmtKind}
 use Rattle.statements.specs.Items.{behindOf}
 use Rattle.statements.specs.Statement.{assignRecord, storeRecord, callRecord, branchRecord, flagsRecord, returnRecord, otherRecord, kindRecord, markOf}
+use Rattle.statements.specs.declared.statement.Assign.{Assign as AssignS}
+use Rattle.statements.specs.declared.statement.Store.{Store as StoreS}
+use Rattle.statements.specs.declared.statement.Call.{Call as CallS}
+use Rattle.statements.specs.declared.statement.Branch.{Branch as BranchS}
+use Rattle.statements.specs.declared.statement.Flags.{Flags as FlagsS}
+use Rattle.statements.specs.declared.statement.Return.{Return as ReturnS}
+use Rattle.statements.specs.declared.statement.Other.{Other as OtherS}
 use Rattle.statements.specs.declared.statement.Kind.the-variants.{Assign, Store, Call, Branch, Flags, Return, Other}
 
 -- ---- places

@@ -7,6 +7,13 @@ use Rattle.definition.specs.Codes.{kAssign, kStore, kCall, kBranch, kFlags, kRe
 use Rattle.definition.specs.Contents.{stmtWord, stmtLong}
 use Rattle.definition.specs.Owners.{stmtKind, stmtField}
 use Rattle.statements.specs.Items.{exprRun, valueRun}
+use Rattle.statements.specs.declared.statement.Assign.{Assign as AssignS}
+use Rattle.statements.specs.declared.statement.Store.{Store as StoreS}
+use Rattle.statements.specs.declared.statement.Call.{Call as CallS}
+use Rattle.statements.specs.declared.statement.Branch.{Branch as BranchS}
+use Rattle.statements.specs.declared.statement.Flags.{Flags as FlagsS}
+use Rattle.statements.specs.declared.statement.Return.{Return as ReturnS}
+use Rattle.statements.specs.declared.statement.Other.{Other as OtherS}
 use Rattle.statements.specs.declared.statement.Stmt.{Stmt}
 use Rattle.statements.specs.declared.statement.Kind.{Kind}
 use Rattle.statements.specs.declared.statement.Kind.the-variants.{Assign, Store, Call, Branch, Flags, Return, Other}

@@ -9,6 +9,7 @@ use Rattle.definition.proofs.Bools.{none-some, by-test}
 use Rattle.room.specs.declared.out.Out.{Out}
 use Rattle.room.specs.Room.{Sheet, sheetOf, isFull, writeAll, seenSheet}
 use Rattle.room.specs.Blank.{fresh}
+use Rattle.sorts.specs.Sorted.{linesIn as linesRead}
 use Rattle.finish.specs.Finishing.{linesIn, Heads}
 use Rattle.structure.specs.declared.answers.Kept.{Kept}
 use Rattle.structure.specs.declared.answers.Passes.{Passes}

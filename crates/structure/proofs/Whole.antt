@@ -8,6 +8,7 @@ use native.Mathlib.Omega.{arith}
 use native.Mathlib.Decide.{decLt}
 use lib.ListN.{length, take, replicate}
 use lib.Seq.{length-take-le}
+use Rattle.definition.specs.Edition.{Room as Limits}
 use Rattle.definition.specs.Lists.{has}
 use Rattle.definition.specs.Tokens.{Line}
 use Rattle.definition.specs.Sorts.{sort}
@@ -35,6 +36,7 @@ use Rattle.finish.proofs.Agree.{agrees}
 use Rattle.structure.specs.declared.answers.Kept.{Kept}
 use Rattle.structure.specs.declared.answers.Passes.{Passes}
 use Rattle.structure.specs.declared.answers.Passes.the-variants.{Refused, Left}
+use Rattle.structure.specs.declared.answers.Structured.{Structured as Answer}
 use Rattle.structure.specs.declared.answers.Structured.the-variants.{TooDeep, Listed}
 use Rattle.structure.specs.Runs.{Ran, ran, ranOf}
 use Rattle.structure.specs.Sheets.{countsOf, HeadsLeft, Answered}

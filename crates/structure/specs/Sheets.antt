@@ -6,6 +6,7 @@ use Prim.Native.Nat.{ℕ}
 use Rattle.definition.specs.Listing.{tests}
 use Rattle.room.specs.Room.{Sheet, sheetOf, writeAll, seenSheet}
 use Rattle.room.specs.Blank.{fresh}
+use Rattle.sorts.specs.Sorted.{linesIn as linesRead}
 use Rattle.finish.specs.Finishing.{linesIn, Heads}
 use Rattle.structure.specs.declared.answers.Kept.{Kept}
 use Rattle.structure.specs.declared.answers.Passes.{Passes}

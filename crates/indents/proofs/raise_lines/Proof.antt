@@ -56,7 +56,9 @@ use Rattle.indents.proofs.Line as T
 use Rattle.indents.proofs.Line.Laws as T′
 use Rattle.indents.proofs.deeper as deeper
 use Rattle.indents.proofs.deeper.Symbol as deeper-def
+use Rattle.indents.proofs.deeper.Symbol.{name as #indents·deeper}
 use Rattle.indents.proofs.deeper.Met as deeper-thm
+use Rattle.indents.proofs.raise_lines.Key.{name as #indents·raise-lines}
 use Rattle.indents.proofs.raise_lines as f
 use Rattle.indents.proofs.raise_lines.Statement as stated
 use Rattle.indents.proofs.raise_lines.Code as code

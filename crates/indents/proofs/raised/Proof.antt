@@ -46,7 +46,9 @@ use Rattle.indents.proofs.Line as T
 use Rattle.indents.proofs.Line.Laws as T′
 use Rattle.indents.proofs.raise_lines as raise
 use Rattle.indents.proofs.raise_lines.Symbol as raise-def
+use Rattle.indents.proofs.raise_lines.Symbol.{name as #indents·raise-lines}
 use Rattle.indents.proofs.raise_lines.Met as raise-thm
+use Rattle.indents.proofs.raised.Key.{name as #indents·raised}
 use Rattle.indents.proofs.raised as f
 use Rattle.indents.proofs.raised.Statement as stated
 use Rattle.indents.proofs.raised.Code as code

@@ -8,6 +8,7 @@ use Rattle.definition.specs.Contents.{size, text as textOf}
 use Rattle.definition.specs.Owners.{firstStmt}
 use Rattle.definition.specs.Read.{read}
 use Rattle.definition.specs.Offsets.{offsets}
+use Rattle.definition.specs.Blocks.{lower as lowerOf}
 use Rattle.records.proofs.Items.{size-small}
 use Rattle.values.specs.Keys.{placesOf}
 use Rattle.room.specs.Room.{sheetOf, writeAll, seenSheet}

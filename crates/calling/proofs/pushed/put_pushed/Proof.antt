@@ -2,6 +2,7 @@ use Rattle.calling.proofs.Pushing.{pushed-turn, pushed-end}
 use Rattle.calls.specs.Waiting.{pushedNodes}
 use Rattle.lowering.specs.Commas.{argsOf}
 use Rattle.room.specs.Room.{roomOf, emitAll, seen}
+use Rattle.definition.specs.Contents.{text as textOf}
 use Rattle.definition.specs.Edition.{Edition}
 use lib.ListN.{length}
 use mathlib.Core.Bool.{false}

@@ -4,6 +4,7 @@ use mathlib.Core.Path.{_≡_, refl, _∙_}
 use Prim.Native.Nat.{_-_, _≤_}
 use lib.ListN.{length}
 use Rattle.definition.specs.Edition.{Edition, edition1}
+use Rattle.definition.specs.Contents.{text as textOf}
 use Rattle.definition.specs.Owners.{firstStmt, firstItem}
 use Rattle.definition.specs.Read.{read}
 use Rattle.definition.specs.Lower.{countSet}

@@ -1,6 +1,7 @@
 use Rattle.lowering.proofs.Commas.{items-start, items-turn, items-end}
 use Rattle.lowering.specs.Commas.{argsOf, listed}
 use Rattle.room.specs.Room.{roomOf, emitAll, seen}
+use Rattle.definition.specs.Contents.{text as textOf}
 use Rattle.definition.specs.Edition.{Edition}
 use lib.ListN.{length}
 use lib.Dec.{ltb}
