@@ -5,8 +5,8 @@ use Rattle.flags.specs.Views.{viewCode, sideOf, signOf, shownRecord, sho
 use borrow.Author.Needs.{needs}
 use Rattle.flags.proofs.shown.after_same.Statement.{statement}
 use Rattle.flags.proofs.shown.after_same.Tie as tie
-
 use Rattle.definition.specs.Condition.Setter.{self as alike}
+
 enum-told : tie.Need-enum-told
 enum-told c = search needs
 
