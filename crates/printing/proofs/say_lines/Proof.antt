@@ -4,12 +4,6 @@ use Prim.Native.Nat.{_-_, _≤_}
 use lib.ListN.{length}
 use Rattle.printing.proofs.say_lines.Statement.{statement}
 use Rattle.printing.proofs.say_lines.Tie as tie
-use Rattle.printing.proofs.say_lines.Reads as reads
-use Rattle.printing.proofs.say_lines.Lts as lts
-use Rattle.printing.proofs.say.Reads as say-reads
-use Rattle.printing.proofs.say_between.Reads as say-between-reads
-use Rattle.printing.proofs.say_front.Reads as say-front-reads
-use Rattle.sheet.proofs.tokens.start_at.Reads as start-at-reads
 
 abbrev Inv-loop : tie.InvT-loop
 Inv-loop lines tokens text from₀ at₀ t7 from at = at ≤ length lines

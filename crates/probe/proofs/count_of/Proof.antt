@@ -2,8 +2,6 @@ use borrow.Author.Needs.{needs}
 use Rattle.probe.specs.Counted.{countOf}
 use Rattle.probe.proofs.count_of.Statement.{statement}
 use Rattle.probe.proofs.count_of.Tie as tie
-use Rattle.probe.proofs.count_of.Reads as reads
-use Rattle.probe.proofs.count_of.Lts as lts
 
 enum-known-w : tie.Need-enum-known-w
 enum-known-w c = search needs

@@ -2,10 +2,6 @@ use borrow.Author.Needs.{needs}
 use Rattle.probe.proofs.Laws.{counted}
 use Rattle.probe.proofs.sorkhelaw_global.Statement.{statement}
 use Rattle.probe.proofs.sorkhelaw_global.Tie as tie
-use Rattle.probe.proofs.sorkhelaw_global.Reads as reads
-use Rattle.probe.proofs.sorkhelaw_global.Lts as lts
-use Rattle.probe.proofs.count_of.Reads as count-of-reads
-use Rattle.text.proofs.names.global_name.Reads as global-name-reads
 
 global-name-requires : tie.Need-global-name-requires
 global-name-requires c κs = search needs

@@ -2,10 +2,6 @@ use borrow.Author.Needs.{needs}
 use Rattle.probe.proofs.Laws.{counted}
 use Rattle.probe.proofs.sorkhelaw_label.Statement.{statement}
 use Rattle.probe.proofs.sorkhelaw_label.Tie as tie
-use Rattle.probe.proofs.sorkhelaw_label.Reads as reads
-use Rattle.probe.proofs.sorkhelaw_label.Lts as lts
-use Rattle.probe.proofs.count_of.Reads as count-of-reads
-use Rattle.digits.proofs.numbers.label.Reads as label-reads
 
 label-requires : tie.Need-label-requires
 label-requires c κs = search needs

@@ -2,10 +2,6 @@ use borrow.Author.Needs.{needs}
 use Rattle.probe.proofs.Laws.{counted}
 use Rattle.probe.proofs.sorkhelaw_num.Statement.{statement}
 use Rattle.probe.proofs.sorkhelaw_num.Tie as tie
-use Rattle.probe.proofs.sorkhelaw_num.Reads as reads
-use Rattle.probe.proofs.sorkhelaw_num.Lts as lts
-use Rattle.probe.proofs.count_of.Reads as count-of-reads
-use Rattle.digits.proofs.numbers.num.Reads as num-reads
 
 num-requires : tie.Need-num-requires
 num-requires c κs = search needs

@@ -2,10 +2,6 @@ use borrow.Author.Needs.{needs}
 use Rattle.probe.proofs.Laws.{counted}
 use Rattle.probe.proofs.sorkhelaw_outward.Statement.{statement}
 use Rattle.probe.proofs.sorkhelaw_outward.Tie as tie
-use Rattle.probe.proofs.sorkhelaw_outward.Reads as reads
-use Rattle.probe.proofs.sorkhelaw_outward.Lts as lts
-use Rattle.probe.proofs.count_of.Reads as count-of-reads
-use Rattle.digits.proofs.numbers.outward.Reads as outward-reads
 
 outward-requires : tie.Need-outward-requires
 outward-requires c κs = search needs

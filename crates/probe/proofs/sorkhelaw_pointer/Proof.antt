@@ -2,10 +2,6 @@ use borrow.Author.Needs.{needs}
 use Rattle.probe.proofs.Laws.{counted}
 use Rattle.probe.proofs.sorkhelaw_pointer.Statement.{statement}
 use Rattle.probe.proofs.sorkhelaw_pointer.Tie as tie
-use Rattle.probe.proofs.sorkhelaw_pointer.Reads as reads
-use Rattle.probe.proofs.sorkhelaw_pointer.Lts as lts
-use Rattle.probe.proofs.count_of.Reads as count-of-reads
-use Rattle.digits.proofs.numbers.pointer.Reads as pointer-reads
 
 pointer-requires : tie.Need-pointer-requires
 pointer-requires c κs = search needs

@@ -2,10 +2,6 @@ use borrow.Author.Needs.{needs}
 use Rattle.probe.proofs.Laws.{counted}
 use Rattle.probe.proofs.sorkhelaw_register.Statement.{statement}
 use Rattle.probe.proofs.sorkhelaw_register.Tie as tie
-use Rattle.probe.proofs.sorkhelaw_register.Reads as reads
-use Rattle.probe.proofs.sorkhelaw_register.Lts as lts
-use Rattle.probe.proofs.count_of.Reads as count-of-reads
-use Rattle.text.proofs.registers.reg_name.Reads as reg-name-reads
 
 reg-name-requires : tie.Need-reg-name-requires
 reg-name-requires c κs = search needs

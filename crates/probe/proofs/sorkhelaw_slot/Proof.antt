@@ -2,10 +2,6 @@ use borrow.Author.Needs.{needs}
 use Rattle.probe.proofs.Laws.{counted}
 use Rattle.probe.proofs.sorkhelaw_slot.Statement.{statement}
 use Rattle.probe.proofs.sorkhelaw_slot.Tie as tie
-use Rattle.probe.proofs.sorkhelaw_slot.Reads as reads
-use Rattle.probe.proofs.sorkhelaw_slot.Lts as lts
-use Rattle.probe.proofs.count_of.Reads as count-of-reads
-use Rattle.digits.proofs.numbers.slot.Reads as slot-reads
 
 slot-requires : tie.Need-slot-requires
 slot-requires c κs = search needs

@@ -2,9 +2,6 @@ use Rattle.probe.proofs.Numbers.{deep-numbers, listed-numbers}
 use borrow.Author.Needs.{needs}
 use Rattle.probe.proofs.structuring.number_of.Statement.{statement}
 use Rattle.probe.proofs.structuring.number_of.Tie as tie
-use Rattle.probe.proofs.structuring.number_of.Reads as reads
-use Rattle.probe.proofs.structuring.number_of.Lts as lts
-use Rattle.probe.proofs.structuring.put_counts.Reads as put-counts-reads
 
 enum-known-r : tie.Need-enum-known-r
 enum-known-r c = search needs

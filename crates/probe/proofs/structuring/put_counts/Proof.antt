@@ -4,8 +4,6 @@ use native.Mathlib.Omega.{arith}
 use borrow.Author.Needs.{needs}
 use Rattle.probe.proofs.structuring.put_counts.Statement.{statement}
 use Rattle.probe.proofs.structuring.put_counts.Tie as tie
-use Rattle.probe.proofs.structuring.put_counts.Reads as reads
-use Rattle.probe.proofs.structuring.put_counts.Lts as lts
 
 returns : tie.Need-returns
 returns c = no-counts _ _ (c .if1 .taken)
