@@ -1,27 +1,22 @@
-//! The nineteen tables that every entry is lent, said once, and the macros that put them into declarations and calls.
+//! The fourteen tables that every entry is lent, said once, and the macros that put them into declarations and calls.
 
 /// Hands the tables to another macro, in the order of every entry: a table's name, the type of its numbers, how many they are, and
 /// whether `sorkhelaw_tables` hands it out.
 macro_rules! with_tables {
     ($then:ident { $($given:tt)* }) => {
         $then! { { $($given)* }
-            owners: u32 = 2_048, false;
             keys: u64 = PLACES, false;
             numbers: u32 = PLACES, true;
-            heads: u32 = 1_024, false;
-            next: u32 = PLACES, false;
+            spare: u32 = PLACES, false;
             offs: u64 = PLACES, true;
             order: u32 = 2_048, false;
             starts: u32 = 1_025, false;
             loads: u32 = 2_048, false;
             live: u32 = PLACES, true;
             phi: u32 = PLACES, true;
-            readers: u32 = PLACES, false;
             roots: u32 = PLACES, true;
             places: u32 = PLACES, true;
             names: u32 = PLACES, true;
-            seen: u32 = PLACES, false;
-            entry: u32 = PLACES, false;
             marks: u32 = PLACES, true;
             labels: u32 = 320, true;
         }

@@ -21,7 +21,7 @@ use Rattle.inline.specs.Placing.{placeOf, Told}
 use Rattle.inline.proofs.Forgetting.{in-place}
 use Rattle.names.specs.Given.{Numbered, EntryRead}
 use Rattle.naming.specs.Given.{NamesAll}
-use Rattle.analyses.specs.Tables.{Unnumbered, Valued, Before, ReadAs, Shared, Named}
+use Rattle.analyses.specs.Tables.{Unnumbered, Valued, Before, ReadAs, Shared, Placed, Nameable, Named}
 
 -- ---- numbers of values
 pub chains-fit : (f ks ns heads next after : List ℕ) → Unnumbered f ks ns heads next → length after ≡ length ks
@@ -60,7 +60,7 @@ module _ (f ns order starts loads live phi readers : List ℕ) (b : Before f ns 
     }
 
 -- ---- variables
-module _ (f ks ns order starts loads live phi readers : List ℕ) (s : Shared f ks ns order starts loads live phi readers) where
+module _ (f ks ns loads live phi readers : List ℕ) (s : Shared f ks ns loads live phi readers) where
   pub for-classes : (n : ℕ) → n ≡ length ns → Given f ks ns n
   for-classes n e = record {
     whole = s .own;
@@ -75,27 +75,32 @@ module _ (f ks ns order starts loads live phi readers : List ℕ) (s : Shared f 
     own = s .own;
     room = s .room;
     number = s .numbers;
-    times = s .reading .times;
-    flows = s .reading .flows;
-    reader = s .reading .last;
+    times = s .times;
+    flows = s .flows;
+    reader = s .last;
     width = length loads;
-    loaded = s .reading .loaded;
+    loaded = s .loaded;
   }
 
+pub all-placed : (f : List ℕ) (m n : ℕ) (roots places : List ℕ) → m ≡ n
+    → ((E : Edition) → roots ≡ table f m (λ v. numberOf (keyed f m) (keyOf (find (classes (read E f)) v))))
+    → ((E : Edition) → places ≡ table f n (placeOf E f)) → Placed f n roots places
+all-placed f m n roots places e r p = record {
+  rooted = λ E. r E ∙ ap (λ (k : ℕ). table f k (λ v. numberOf (keyed f k) (keyOf (find (classes (read E f)) v)))) e;
+  placed = p;
+}
+
+-- ---- names
+module _ (f ns roots places order starts : List ℕ) (s : Nameable f ns roots places order starts) where
   pub for-names : Numbered f ns
   for-names = record { own = s .own; are = s .numbers; room = s .room }
 
-pub all-named : (f : List ℕ) (m n : ℕ) (roots places names seen entry : List ℕ) → m ≡ n
-    → ((E : Edition) → roots ≡ table f m (λ v. numberOf (keyed f m) (keyOf (find (classes (read E f)) v))))
-    → ((E : Edition) → places ≡ table f n (placeOf E f)) → EntryRead f n entry → NamesAll f n roots places entry names seen
-    → Named f n roots places names seen entry
-all-named f m n roots places names seen entry e r p t a =
-    let r′ : (E : Edition) → roots ≡ table f n (λ v. numberOf (keyed f n) (keyOf (find (classes (read E f)) v))) =
-    λ E. r E ∙ ap (λ (k : ℕ). table f k (λ v. numberOf (keyed f k) (keyOf (find (classes (read E f)) v)))) e in
-    record {
-      rooted = r′;
-      placed = p;
-      named = λ E. a .says E (placeOf E f) (record { rooted = r′ E; placed = p E; away = in-place E f; entered = t .says E });
-      cleared = a .cleared;
-      entered = t;
-    }
+  pub all-named : (names seen entry : List ℕ) → EntryRead f (length ns) entry → NamesAll f (length ns) roots places entry names seen
+      → Named f (length ns) names seen entry
+  all-named names seen entry t a =
+      let p = s .variables in
+      record {
+        named = λ E. a .says E (placeOf E f) (record { rooted = p .rooted E; placed = p .placed E; away = in-place E f; entered = t .says E });
+        cleared = a .cleared;
+        entered = t;
+      }

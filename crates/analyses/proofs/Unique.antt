@@ -9,7 +9,7 @@ use Rattle.definition.specs.Read.{allTrees}
 use Rattle.definition.specs.Inline.{hasLoad}
 use Rattle.definition.specs.Listing.{padded}
 use Rattle.reads.specs.Uses.{useOrder, useStarts}
-use Rattle.analyses.specs.Tables.{Valued, ReadAs, Named}
+use Rattle.analyses.specs.Tables.{Valued, ReadAs, Placed, Named}
 
 -- lists that the same g gives of their lengths
 alike : (g : ℕ → List ℕ) (l m : List ℕ) → length l ≡ length m → l ≡ g (length l) → m ≡ g (length m) → l ≡ m
@@ -40,13 +40,11 @@ by-node f n order starts loads live phi readers order′ starts′ loads′ live
   alike (λ m. padded m (map (λ x. cond (hasLoad x) 1 0) (allTrees edition1 f))) loads loads′ d (p .loaded edition1) (q .loaded edition1),
 )
 
-pub variables : (f : List ℕ) (n : ℕ) (roots places names seen entry roots′ places′ names′ seen′ entry′ : List ℕ)
-    → Named f n roots places names seen entry → Named f n roots′ places′ names′ seen′ entry′
-    → (roots ≡ roots′) × (places ≡ places′) × (names ≡ names′) × (seen ≡ seen′) × (entry ≡ entry′)
-variables f n roots places names seen entry roots′ places′ names′ seen′ entry′ p q = (
-  p .rooted edition1 ∙ sym (q .rooted edition1),
-  p .placed edition1 ∙ sym (q .placed edition1),
-  p .named edition1 ∙ sym (q .named edition1),
-  p .cleared ∙ sym (q .cleared),
-  p .entered .says edition1 ∙ sym (q .entered .says edition1),
-)
+pub variables : (f : List ℕ) (n : ℕ) (roots places roots′ places′ : List ℕ) → Placed f n roots places → Placed f n roots′ places′
+    → (roots ≡ roots′) × (places ≡ places′)
+variables f n roots places roots′ places′ p q = (p .rooted edition1 ∙ sym (q .rooted edition1), p .placed edition1 ∙ sym (q .placed edition1))
+
+pub called : (f : List ℕ) (n : ℕ) (names seen entry names′ seen′ entry′ : List ℕ) → Named f n names seen entry → Named f n names′ seen′ entry′
+    → (names ≡ names′) × (seen ≡ seen′) × (entry ≡ entry′)
+called f n names seen entry names′ seen′ entry′ p q =
+    (p .named edition1 ∙ sym (q .named edition1), p .cleared ∙ sym (q .cleared), p .entered .says edition1 ∙ sym (q .entered .says edition1))

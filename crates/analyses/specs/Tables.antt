@@ -64,26 +64,44 @@ pub record ReadAs (f : List ℕ) (n : ℕ) (order starts loads live phi readers 
   pub last : readers ≡ table f n (lastReader f)
 
 -- the tables that the variables are made from
-pub record Shared (f ks ns order starts loads live phi readers : List ℕ) : Type 0 where
+pub record Shared (f ks ns loads live phi readers : List ℕ) : Type 0 where
   pub own : owned f ≡ true
   pub room : placesOf f .total ≤ length ns
   pub few : length ns < 2147483648
   pub keys : ks ≡ keyed f (length ns)
   pub numbers : ns ≡ numbered f (length ns)
-  pub reading : ReadAs f (length ns) order starts loads live phi readers
+  pub loaded : Loads f (length loads) loads
+  pub times : LiveReads f (length ns) live
+  pub flows : PhiReads f (length ns) phi
+  pub last : readers ≡ table f (length ns) (lastReader f)
 
--- the tables that they are written to: zeros, and anything for the roots
-pub record Spare (n : ℕ) (roots places names seen entry : List ℕ) : Type 0 where
+-- the tables that they are written to: anything for the roots, and zeros
+pub record Unplaced (n : ℕ) (roots places : List ℕ) : Type 0 where
   pub as-roots : length roots ≡ n
   pub no-places : places ≡ replicate n 0
+
+-- of every value the number of its class's root, and where it is written in place
+pub record Placed (f : List ℕ) (n : ℕ) (roots places : List ℕ) : Type 0 where
+  pub rooted : (E : Edition) → roots ≡ table f n (λ v. numberOf (keyed f n) (keyOf (find (classes (read E f)) v)))
+  pub placed : (E : Edition) → places ≡ table f n (placeOf E f)
+
+-- the tables that the names are made from
+pub record Nameable (f ns roots places order starts : List ℕ) : Type 0 where
+  pub own : owned f ≡ true
+  pub room : placesOf f .total ≤ length ns
+  pub few : length ns < 2147483648
+  pub numbers : ns ≡ numbered f (length ns)
+  pub variables : Placed f (length ns) roots places
+  pub flat : Ordered f (length order) (length starts) order starts
+
+-- zeros for the names, and for what they are found with
+pub record Nameless (n : ℕ) (names seen entry : List ℕ) : Type 0 where
   pub no-names : names ≡ replicate n 0
   pub no-seen : seen ≡ replicate n 0
   pub no-entry : entry ≡ replicate n 0
 
--- of every value the number of its class's root, where it is written in place, its name, and whether it is really read at entry; seen cleared again
-pub record Named (f : List ℕ) (n : ℕ) (roots places names seen entry : List ℕ) : Type 0 where
-  pub rooted : (E : Edition) → roots ≡ table f n (λ v. numberOf (keyed f n) (keyOf (find (classes (read E f)) v)))
-  pub placed : (E : Edition) → places ≡ table f n (placeOf E f)
+-- of every value its name, and whether it is really read at entry; seen cleared again
+pub record Named (f : List ℕ) (n : ℕ) (names seen entry : List ℕ) : Type 0 where
   pub named : (E : Edition) → names ≡ table f n (nameCode (read E f) (classes (read E f)) (inline (read E f) (readsOf (read E f))))
   pub cleared : seen ≡ replicate n 0
   pub entered : EntryRead f n entry

@@ -4,7 +4,7 @@ use naming::naming;
 use reads::counts::live_reads;
 use reads::counts::phi_reads;
 ghost use lib.ListN.{length};
-ghost use Rattle.analyses.specs.Tables.{Unnumbered, Valued, Before, ReadAs, Shared, Spare, Named};
+ghost use Rattle.analyses.specs.Tables.{Unnumbered, Valued, Before, ReadAs, Shared, Unplaced, Placed, Nameable, Nameless, Named};
 
 // The key and the number of every place. Heads and next are scratch, and are left as zeros.
 pub fn number_values(
@@ -42,29 +42,42 @@ pub fn read_tables(
     reads::counts::readers(readers, f, numbers, order, starts);
 }
 
-// Classes first, then what is written in place, then the names, which need both. Seen is scratch, and is left as zeros.
+// The classes of values, and what is written in place.
 pub fn variables(
     roots: &mut [u32],
     places: &mut [u32],
-    names: &mut [u32],
-    seen: &mut [u32],
-    entry: &mut [u32],
     f: &[u8],
     keys: &[u64],
     numbers: &[u32],
-    order: &[u32],
-    starts: &[u32],
     loads: &[u32],
     live: &[u32],
     phi: &[u32],
     readers: &[u32],
 )
-    requires { ⌜ Shared (now f) (now keys) (now numbers) (now order) (now starts) (now loads) (now live) (now phi) (now readers) ⌝ }
-    requires { ⌜ Spare (length (now numbers)) (now roots) (now places) (now names) (now seen) (now entry) ⌝ }
-    ensures { λ _. ⌜ Named (now (f .entry)) (length (now (numbers .entry))) (now (roots .exit)) (now (places .exit)) (now (names .exit)) (now (seen .exit)) (now (entry .exit)) ⌝ }
+    requires { ⌜ Shared (now f) (now keys) (now numbers) (now loads) (now live) (now phi) (now readers) ⌝ }
+    requires { ⌜ Unplaced (length (now numbers)) (now roots) (now places) ⌝ }
+    ensures { λ _. ⌜ Placed (now (f .entry)) (length (now (numbers .entry))) (now (roots .exit)) (now (places .exit)) ⌝ }
 {
     classes::classes::classes(roots, f, keys, numbers);
     inline::inline(places, f, numbers, live, phi, readers, loads);
+}
+
+// The names, which need both. Seen is scratch, and is left as zeros.
+pub fn name_variables(
+    names: &mut [u32],
+    seen: &mut [u32],
+    entry: &mut [u32],
+    f: &[u8],
+    numbers: &[u32],
+    roots: &[u32],
+    places: &[u32],
+    order: &[u32],
+    starts: &[u32],
+)
+    requires { ⌜ Nameable (now f) (now numbers) (now roots) (now places) (now order) (now starts) ⌝ }
+    requires { ⌜ Nameless (length (now numbers)) (now names) (now seen) (now entry) ⌝ }
+    ensures { λ _. ⌜ Named (now (f .entry)) (length (now (numbers .entry))) (now (names .exit)) (now (seen .exit)) (now (entry .exit)) ⌝ }
+{
     entry_reads(entry, f, numbers, order, starts);
     naming(names, seen, f, numbers, roots, places, entry, order, starts);
 }

@@ -1,4 +1,4 @@
-// The answer to the caller, in numbers.
+// The answers in numbers: to the caller, and of lowering.
 use structure::answers::Counts;
 use structure::answers::Structured;
 ghost use mathlib.Core.Path.{_≡_};
@@ -15,6 +15,13 @@ pub struct Answer {
     pub ifs: usize,
     pub loops: usize,
     pub tests: usize,
+}
+
+// What lowering answers: the number of the refusal, or 0 and how many lines there are.
+#[repr(C)]
+pub struct Lowered {
+    pub number: u32,
+    pub lines: usize,
 }
 
 pub fn refused(n: u32) -> Answer

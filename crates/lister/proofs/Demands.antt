@@ -85,20 +85,20 @@ module _ (f : List ℕ) (bytes : all (λ b. ltb b 256) f ≡ true) (B : Lent) (L
       (finished-proper (lowered edition1 f) L (is-plain edition1 edition1-text f bytes L e) (proper (read edition1 f) (offsets (read edition1 f)))
       (finished edition1 edition1-text f bytes L e)))
 
-module _ (f : List ℕ) (bytes : all (λ b. ltb b 256) f ≡ true) (l d x : List ℕ) (r : Answer) (l′ d′ x′ ls ks t ls′ ks′ t′ owners owners′ : List ℕ) (T T′ : Tables)
-    (p : Lists f l d x r l′ d′ x′ ls ks t ls′ ks′ t′ owners owners′ T T′) where
+module _ (f : List ℕ) (bytes : all (λ b. ltb b 256) f ≡ true) (l d x : List ℕ) (r : Answer) (l′ d′ x′ ls ks t ls′ ks′ t′ : List ℕ) (T T′ : Tables)
+    (p : Lists f l d x r l′ d′ x′ ls ks t ls′ ks′ t′ T T′) where
   abbrev B : Lent
   B = lentOf (length l) (length d) (length x)
 
   abbrev right : Bool
-  right = ready ls ks t owners T && fits edition1 B
+  right = ready ls ks t T && fits edition1 B
 
   wrong : right ≡ false → Wrong f B right r l′ d′ x′
-  wrong h = record { lengths = h; whole = p .listing ∙ refused-one edition1 f B (ready ls ks t owners T) h }
+  wrong h = record { lengths = h; whole = p .listing ∙ refused-one edition1 f B (ready ls ks t T) h }
 
   module _ (h : right ≡ true) where
     of-list : answered r l′ d′ x′ ≡ resultOf B (list edition1 f)
-    of-list = p .listing ∙ not-one edition1 f B (ready ls ks t owners T) h
+    of-list = p .listing ∙ not-one edition1 f B (ready ls ks t T) h
 
     refusal-is : (i : ℕ) → i < 8 → list edition1 f ≡ refused (2 + i) → Refused f B right r l′ d′ x′ i
     unfolding resultOf

@@ -1,5 +1,4 @@
 mod First
-mod Structuring
 mod Whole
 mod ReadBack
 pub mod Unique

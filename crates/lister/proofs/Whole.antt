@@ -17,17 +17,17 @@ use Rattle.definition.specs.Offsets.{offsets}
 use Rattle.definition.specs.Listing.{Lent, structure, fits, refusal, resultOf, result, list}
 use Rattle.definition.proofs.Bools.{both-true}
 use Rattle.definition.proofs.LoweredRead.{edition1-text}
-use Rattle.tables.specs.Tables.{Tables, tablesOf, zeros, cleared, longValues, allLong, long}
+use Rattle.tables.specs.Tables.{Tables, tablesOf, zeros, cleared, longPlaces, allLong, long}
 use Rattle.structure.specs.Lowered.{Given, Lends, lent}
 use Rattle.structure.proofs.EveryFile.{given-file, room-file}
 use Rattle.lent.specs.declared.answer.Answer.{Answer}
+use Rattle.lent.specs.declared.answer.Lowered.{Lowered}
 use Rattle.lent.specs.Lengths.{lentOf, lowFits}
-use Rattle.lowered.specs.declared.Lowered.{Lowered}
 use Rattle.lowered.specs.Lowered.{Low, lowOf, lowIn, linesOf, firstOf, LoweredIn}
+use Rattle.structured.specs.Structured.{Lowers, Answers}
+use Rattle.structured.proofs.Structuring.{front-zeros}
 use Rattle.lister.specs.Lists.{ready, Lists}
-use Rattle.lister.specs.Structured.{Lowers, Answers}
 use Rattle.lister.proofs.First.{Passes, by-first, none-refuses, all-bytes}
-use Rattle.lister.proofs.Structuring.{front-zeros}
 
 and-swap : (a b : Bool) → (a && b) ≡ (b && a)
 and-swap true true = refl
@@ -38,19 +38,18 @@ and-swap false false = refl
 -- tables of which two were used again
 abbrev twice : Tables → List ℕ → List ℕ → Tables
 twice U R S =
-    tablesOf R (U .numbers) (U .heads) (U .next) S (U .order) (U .starts) (U .loads) (U .live) (U .phi) (U .readers) (U .roots) (U .places) (U .names)
-    (U .seen) (U .entry) (U .marks) (U .labels)
+    tablesOf R (U .numbers) (U .spare) S (U .order) (U .starts) (U .loads) (U .live) (U .phi) (U .roots) (U .places) (U .names) (U .marks) (U .labels)
 
 -- of a right scratch, the two tables that serve twice
-two-long : (owners : List ℕ) (T : Tables) → long owners T ≡ true → (length (T .keys) ≡ 7696) × (length (T .offs) ≡ 7696)
-unfolding allLong longValues
-two-long owners T h =
-    let v = both-true _ _ (both-true (eqb (length owners) 2048) _ h .1) .0 in
+two-long : (T : Tables) → long T ≡ true → (length (T .keys) ≡ 7696) × (length (T .offs) ≡ 7696)
+unfolding allLong longPlaces
+two-long T h =
+    let v = both-true _ _ h .0 in
     let k = both-true (eqb (length (T .keys)) 7696) _ v in
     let n = both-true (eqb (length (T .numbers)) 7696) _ (k .1) in
-    let g = both-true (eqb (length (T .heads)) 1024) _ (n .1) in
-    let o = both-true (eqb (length (T .next)) 7696) _ (g .1) in
-    (eqb-true (length (T .keys)) 7696 (k .0), eqb-true (length (T .offs)) 7696 (o .1))
+    let s = both-true (eqb (length (T .spare)) 7696) _ (n .1) in
+    let o = both-true (eqb (length (T .offs)) 7696) _ (s .1) in
+    (eqb-true (length (T .keys)) 7696 (k .0), eqb-true (length (T .offs)) 7696 (o .0))
 
 -- right lengths of what is lent
 three-long : (l d x : ℕ) → fits edition1 (lentOf l d x) ≡ true → (l ≡ 7680) × (d ≡ 6144) × (x ≡ 32768)
@@ -75,10 +74,10 @@ low-number L T B f (suc n) = rw (eqb·suc-zero n) refl
 
 module _ (f : List ℕ) (bytes : (k : ℕ) → Fits w8 (getD f k 0)) (l d x : List ℕ) (l₀ d₀ x₀ : List ℕ)
     (blank : (l₀ ≡ replicate (length l) 0) × (d₀ ≡ replicate (length d) 0) × (x₀ ≡ replicate (length x) 0))
-    (b : Bool) (right : b ≡ fits edition1 (lentOf (length l₀) (length d₀) (length x₀))) (owners owners′ : List ℕ) (T U : Tables) (ls ks t : List ℕ)
-    (w : Lowered) (ls₁ ks₁ t₁ : List ℕ) (p : LoweredIn b f owners owners′ T U ls ks t w ls₁ ks₁ t₁) where
+    (b : Bool) (right : b ≡ fits edition1 (lentOf (length l₀) (length d₀) (length x₀))) (T U : Tables) (ls ks t : List ℕ)
+    (w : Lowered) (ls₁ ks₁ t₁ : List ℕ) (p : LoweredIn b f T U ls ks t w ls₁ ks₁ t₁) where
   abbrev all-right : Bool
-  all-right = b && (lowFits edition1 (lentOf (length ls) (length ks) (length t)) && long owners T)
+  all-right = b && (lowFits edition1 (lentOf (length ls) (length ks) (length t)) && long T)
 
   number-is : w .number ≡ firstOf all-right f
   number-is = ap (λ (z : Low). z .number) (p .low) ∙ low-number (length ls) (length ks) (length t) f (firstOf all-right f)
@@ -106,7 +105,7 @@ module _ (f : List ℕ) (bytes : (k : ℕ) → Fits w8 (getD f k 0)) (l d x : Li
     lengths = three-long (length l₀) (length d₀) (length x₀) (sym right ∙ both-true b _ all-are .0)
 
     tables-long : (length (T .keys) ≡ 7696) × (length (T .offs) ≡ 7696)
-    tables-long = two-long owners T (both-true (lowFits edition1 (lentOf (length ls) (length ks) (length t))) _ (both-true b _ all-are .1) .1)
+    tables-long = two-long T (both-true (lowFits edition1 (lentOf (length ls) (length ks) (length t))) _ (both-true b _ all-are .1) .1)
 
     lines-are : lowOf w ls₁ ks₁ t₁ ≡ lowIn (length ls) (length ks) (length t) f 0
     lines-are = p .low ∙ ap (lowIn (length ls) (length ks) (length t) f) none
@@ -159,16 +158,16 @@ module _ (f : List ℕ) (bytes : (k : ℕ) → Fits w8 (getD f k 0)) (l d x : Li
       rw (as-long (length l) l₀ (blank .0), as-long (length d) d₀ (blank .1), as-long (length x) x₀ (blank .2)) refl
 
   -- nothing is lent wrongly, as the definition asks it
-  same-test : all-right ≡ (ready ls ks t owners T && fits edition1 (lent l₀ d₀ x₀))
+  same-test : all-right ≡ (ready ls ks t T && fits edition1 (lent l₀ d₀ x₀))
   unfolding ready lent
   same-test =
-      and-swap b (lowFits edition1 (lentOf (length ls) (length ks) (length t)) && long owners T)
-      ∙ ap (λ (c : Bool). (lowFits edition1 (lentOf (length ls) (length ks) (length t)) && long owners T) && c) right
+      and-swap b (lowFits edition1 (lentOf (length ls) (length ks) (length t)) && long T)
+      ∙ ap (λ (c : Bool). (lowFits edition1 (lentOf (length ls) (length ks) (length t)) && long T) && c) right
 
   pub lists : (r : Answer) (l′ d′ x′ R S ls′ ks′ t′ : List ℕ) → Answers l₀ d₀ x₀ (U .keys) (U .offs) ls₁ ks₁ t₁ w r l′ d′ x′ R S
       → (ls′ ≡ replicate (length ls₁) 0) × (ks′ ≡ replicate (length ks₁) 0) × (t′ ≡ replicate (length t₁) 0)
       → length ls₁ ≡ length ls → length ks₁ ≡ length ks → length t₁ ≡ length t
-      → Lists f l d x r l′ d′ x′ ls ks t ls′ ks′ t′ owners owners′ T (twice U R S)
+      → Lists f l d x r l′ d′ x′ ls ks t ls′ ks′ t′ T (twice U R S)
   unfolding result zeros
   lists r l′ d′ x′ R S ls′ ks′ t′ a blanks e₁ e₂ e₃ = record {
     listing =
@@ -176,11 +175,10 @@ module _ (f : List ℕ) (bytes : (k : ℕ) → Fits w8 (getD f k 0)) (l d x : Li
         ∙ ap (λ (n : ℕ). cond (eqb n 0) (resultOf (lent l₀ d₀ x₀) (structure (linesOf f))) (refusal (lent l₀ d₀ x₀) n)) number-is
         ∙ sym (by-first (lent l₀ d₀ x₀) all-right f)
         ∙ ap (λ (c : Bool). cond c (resultOf (lent l₀ d₀ x₀) (list edition1 f)) (refusal (lent l₀ d₀ x₀) 1)) same-test
-        ∙ ap (λ (B : Lent). result edition1 B (ready ls ks t owners T) f) same-lent;
+        ∙ ap (λ (B : Lent). result edition1 B (ready ls ks t T) f) same-lent;
     low-lines = blanks .0 ∙ ap (λ (n : ℕ). replicate n 0) e₁;
     low-tokens = blanks .1 ∙ ap (λ (n : ℕ). replicate n 0) e₂;
     low-text = blanks .2 ∙ ap (λ (n : ℕ). replicate n 0) e₃;
-    scratch = p .scratch;
     tables =
         ap (λ (A : List ℕ). twice U A S) (a .rows ∙ sym (again (length (T .keys)) (U .keys) keys-are))
         ∙ ap (λ (A : List ℕ). twice U (U .keys) A) (a .spans ∙ sym (again (length (T .offs)) (U .offs) offs-are)) ∙ p .tables;

@@ -42,7 +42,7 @@ pub section : text edition1 ≡ 8
 unfolding text edition1
 section = refl
 
-module _ (f : List ℕ) (s : ℕ) (o o′ : List ℕ) (T U : Tables) (p : Filled f s o o′ T U) (n : ℕ) (e : n ≡ filledTo f s) where
+module _ (f : List ℕ) (s : ℕ) (T U : Tables) (p : Filled f s T U) (n : ℕ) (e : n ≡ filledTo f s) where
   -- u, which l has become, has a front, and is zeros without it
   abbrev Front : List ℕ → List ℕ → Type 0
   Front l u = (n ≤ length u) × (emptied n u ≡ zeros l)
@@ -51,20 +51,20 @@ module _ (f : List ℕ) (s : ℕ) (o o′ : List ℕ) (T U : Tables) (p : Filled
   abbrev Whole : List ℕ → Type 0
   Whole t = (length t ≡ most) × ((replicate (placesOf f .total) 0 ++ drop (placesOf f .total) t) ≡ replicate most 0)
 
-  passed : s ≡ 0 → Filled f 0 o o′ T U
-  passed q = subst (λ (r : ℕ). Filled f r o o′ T U) q p
+  passed : s ≡ 0 → Filled f 0 T U
+  passed q = subst (λ (r : ℕ). Filled f r T U) q p
 
   lent : s ≡ 0 → Blank most (cleared T)
-  lent q = all-blank f o o′ T U (passed q)
+  lent q = all-blank f T U (passed q)
 
   numbered-whole : s ≡ 0 → Whole (numbered f most)
   numbered-whole q =
-      let S = file-sound f o o′ T U (passed q) in
+      let S = file-sound f T U (passed q) in
       (numbered-length f most ∙ keyed-length f most (S .own) (S .few-places), numbered-emptied f (S .own) (placesOf f .total) most (omega arith) (S .few-places))
 
   table-whole : s ≡ 0 → (g : Value → ℕ) → Whole (table f most g)
   table-whole q g =
-      let S = file-sound f o o′ T U (passed q) in
+      let S = file-sound f T U (passed q) in
       (table-length f most g ∙ keyed-length f most (S .own) (S .few-places), table-emptied f (S .own) (placesOf f .total) most (omega arith) (S .few-places) g)
 
   front : (l u t : List ℕ) → u ≡ given s l t → (s ≡ 0 → Whole t) → (s ≡ 0 → zeros l ≡ replicate most 0) → Front l u
@@ -75,7 +75,7 @@ module _ (f : List ℕ) (s : ℕ) (o o′ : List ℕ) (T U : Tables) (p : Filled
       go (yes q) =
           let k : n ≡ placesOf f .total = rw (eq-eqb s 0 q) at e in
           let v : u ≡ t = rw (eq-eqb s 0 q) at h in
-          (omega (arith, k, ap length v, w q .0, file-sound f o o′ T U (passed q) .few-places), rw (k, v) (w q .1 ∙ sym (z q)))
+          (omega (arith, k, ap length v, w q .0, file-sound f T U (passed q) .few-places), rw (k, v) (w q .1 ∙ sym (z q)))
       go (no d) =
           let k : n ≡ 0 = rw (ne-eqb s 0 d) at e in
           let v : u ≡ zeros l = rw (ne-eqb s 0 d) at h in

@@ -46,59 +46,59 @@ is-shaped f h =
     both-true (adjoin f (contents edition1) 0 (edition1 .sections) && owned f) (shaped f) (not-false _ p5) .1
 
 -- ---- the tables
-module _ (f : List ℕ) (bytes : (j : ℕ) → Fits w8 (getD f j 0)) (o o′ : List ℕ) (T T′ : Tables) (ns : length (T′ .numbers) ≡ length (T .numbers))
-    (ls : length (T′ .labels) ≡ length (T .labels)) (p : Filled f 0 o o′ T T′) where
+module _ (f : List ℕ) (bytes : (j : ℕ) → Fits w8 (getD f j 0)) (T T′ : Tables) (ns : length (T′ .numbers) ≡ length (T .numbers))
+    (ls : length (T′ .labels) ≡ length (T .labels)) (p : Filled f 0 T T′) where
   numbers-most : length (T′ .numbers) ≡ most
-  numbers-most = ns ∙ numbers-long f o o′ T T′ p
+  numbers-most = ns ∙ numbers-long f T T′ p
 
   labels-most : length (T′ .labels) ≡ 320
-  labels-most = ls ∙ labels-long f o o′ T T′ p
+  labels-most = ls ∙ labels-long f T T′ p
 
   abbrev n : ℕ
   n = length (T′ .numbers)
 
   ground : Ground f (T′ .numbers) (placesOf f)
   ground =
-      let S = file-sound f o o′ T T′ p in
+      let S = file-sound f T T′ p in
       record {
         counts = S .own;
         where-all = refl;
         room = omega (arith, S .few-places, numbers-most);
-        values = numbers-are f o o′ T T′ p ∙ ap (numbered f) (sym numbers-most);
+        values = numbers-are f T T′ p ∙ ap (numbered f) (sym numbers-most);
       }
 
   known : (E : Edition) → text E ≡ 8 → T′ .offs ≡ table f n (look (offsets (read E f)))
-  known E e = offs-are f o o′ T T′ p E e ∙ ap (λ (m : ℕ). table f m (look (offsets (read E f)))) (sym numbers-most)
+  known E e = offs-are f T T′ p E e ∙ ap (λ (m : ℕ). table f m (look (offsets (read E f)))) (sym numbers-most)
 
   rooted : (E : Edition) → T′ .roots ≡ table f n (λ v. numberOf (keyed f n) (keyOf (find (classes (read E f)) v)))
-  rooted E = roots-are f o o′ T T′ p E ∙ ap (λ (m : ℕ). table f m (λ v. numberOf (keyed f m) (keyOf (find (classes (read E f)) v)))) (sym numbers-most)
+  rooted E = roots-are f T T′ p E ∙ ap (λ (m : ℕ). table f m (λ v. numberOf (keyed f m) (keyOf (find (classes (read E f)) v)))) (sym numbers-most)
 
   really : (E : Edition) → text E ≡ 8 → T′ .marks ≡ table f n (λ v. cond (within v (readRoots (read E f) (offsets (read E f)) (classes (read E f)))) 1 0)
   really E e =
-      marked-are f o o′ T T′ p .really E e
+      marked-are f T T′ p .really E e
       ∙ ap (λ (m : ℕ). table f m (λ v. cond (within v (readRoots (read E f) (offsets (read E f)) (classes (read E f)))) 1 0)) (sym numbers-most)
 
   pub lowers : Lowers f 8 (T′ .numbers) (T′ .offs) (T′ .places) (T′ .names) (T′ .live) (T′ .phi) (T′ .roots) (T′ .marks) (T′ .labels)
   lowers = record {
     told = record {
       ground = ground;
-      once = file-sound f o o′ T T′ p .once;
+      once = file-sound f T T′ p .once;
       known = known;
-      placed = λ E. places-are f o o′ T T′ p E ∙ ap (λ (m : ℕ). table f m (placeOf E f)) (sym numbers-most);
+      placed = λ E. places-are f T T′ p E ∙ ap (λ (m : ℕ). table f m (placeOf E f)) (sym numbers-most);
       named = λ E.
-          names-are f o o′ T T′ p E
+          names-are f T T′ p E
           ∙ ap (λ (m : ℕ). table f m (nameCode (read E f) (classes (read E f)) (inline (read E f) (readsOf (read E f))))) (sym numbers-most);
     };
-    shape = is-shaped f (file-checked f o o′ T T′ p);
-    times = subst (λ (m : ℕ). LiveReads f m (T′ .live)) (sym numbers-most) (live-are f o o′ T T′ p);
-    flows = subst (λ (m : ℕ). PhiReads f m (T′ .phi)) (sym numbers-most) (phi-are f o o′ T T′ p);
+    shape = is-shaped f (file-checked f T T′ p);
+    times = subst (λ (m : ℕ). LiveReads f m (T′ .live)) (sym numbers-most) (live-are f T T′ p);
+    flows = subst (λ (m : ℕ). PhiReads f m (T′ .phi)) (sym numbers-most) (phi-are f T T′ p);
     classed = record {
       rooted = rooted;
       read =
           read-again f bytes 8 (T′ .numbers) (T′ .offs) ground (T′ .roots) edition1 (offsets (read edition1 f)) (T′ .marks) section (known edition1 section)
           (rooted edition1) (really edition1 section);
     };
-    targets = subst (λ (m : ℕ). Labels f m (T′ .labels)) (sym labels-most) (marked-are f o o′ T T′ p .labelled);
+    targets = subst (λ (m : ℕ). Labels f m (T′ .labels)) (sym labels-most) (marked-are f T T′ p .labelled);
   }
 
 -- ---- what is written to
@@ -111,8 +111,8 @@ three-long l k x h =
     (eqb-true _ _ (b .0), eqb-true _ _ (b .1), eqb-true _ _ (a .1))
 
 -- ---- n is the refusal so far: 0 only where both tests hold and s is 0
-module _ (ready fit : Bool) (f : List ℕ) (bytes : (j : ℕ) → Fits w8 (getD f j 0)) (s n : ℕ) (o o′ : List ℕ) (T T′ : Tables) (l₀ k₀ x₀ l k x : List ℕ) where
-  pub passes : (l ≡ replicate (length l₀) 0) × (k ≡ replicate (length k₀) 0) × (x ≡ replicate (length x₀) 0) → Filled f s o o′ T T′
+module _ (ready fit : Bool) (f : List ℕ) (bytes : (j : ℕ) → Fits w8 (getD f j 0)) (s n : ℕ) (T T′ : Tables) (l₀ k₀ x₀ l k x : List ℕ) where
+  pub passes : (l ≡ replicate (length l₀) 0) × (k ≡ replicate (length k₀) 0) × (x ≡ replicate (length x₀) 0) → Filled f s T T′
       → length (T′ .numbers) ≡ length (T .numbers) → length (T′ .labels) ≡ length (T .labels) → fit ≡ lowFits edition1 (lentOf (length l) (length k) (length x)) → n ≡ cond (ready && fit) s 1
       → Passes f n l k x (T′ .numbers) (T′ .offs) (T′ .places) (T′ .names) (T′ .live) (T′ .phi) (T′ .roots) (T′ .marks) (T′ .labels)
   passes z p ns ls a b = record {
@@ -120,5 +120,5 @@ module _ (ready fit : Bool) (f : List ℕ) (bytes : (j : ℕ) → Fits w8 (getD 
     no-tokens = own-zeros k (length k₀) (z .1);
     no-text = own-zeros x (length x₀) (z .2);
     room = λ e. three-long (length l) (length k) (length x) (sym a ∙ both-true ready fit (chosen (ready && fit) s (sym e ∙ b) .0) .1);
-    given = λ e. lowers f bytes o o′ T T′ ns ls (subst (λ (m : ℕ). Filled f m o o′ T T′) (chosen (ready && fit) s (sym e ∙ b) .1) p);
+    given = λ e. lowers f bytes T T′ ns ls (subst (λ (m : ℕ). Filled f m T T′) (chosen (ready && fit) s (sym e ∙ b) .1) p);
   }

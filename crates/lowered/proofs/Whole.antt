@@ -8,49 +8,45 @@ use Rattle.definition.specs.Edition.{edition1}
 use Rattle.tables.specs.Tables.{Tables, tablesOf, zeros, cleared, long}
 use Rattle.tables.specs.Filled.{judged, answer, Filled}
 use Rattle.tables.proofs.Emptying.{long-zeros, zeros-of}
+use Rattle.lent.specs.declared.answer.Lowered.{Lowered}
 use Rattle.lent.specs.Lengths.{lentOf, lowFits}
-use Rattle.lowered.specs.declared.Lowered.{Lowered}
 use Rattle.lowered.specs.Lowered.{lowOf, upTo8, firstOf, lowIn, LoweredIn}
 use Rattle.lowered.specs.Emptied.{filledTo, emptied}
 use Rattle.lowered.proofs.Refusing.{all-tests}
 use Rattle.lowered.proofs.Clearing.{numbers-gone, offs-gone, places-gone, names-gone, live-gone, phi-gone, roots-gone, marks-gone}
 
-module _ (f : List ℕ) (s : ℕ) (o o′ : List ℕ) (T U : Tables) (p : Filled f s o o′ T U) (i : ℕ) (filled : i ≡ filledTo f s) (numbers offs places names live phi roots marks labels : List ℕ) where
+module _ (f : List ℕ) (s : ℕ) (T U : Tables) (p : Filled f s T U) (i : ℕ) (filled : i ≡ filledTo f s) (numbers offs places names live phi roots marks labels : List ℕ) where
   all-gone : length (U .labels) ≡ length (T .labels)
       → (numbers ≡ emptied i (U .numbers)) × (offs ≡ emptied i (U .offs)) × (places ≡ emptied i (U .places)) × (names ≡ emptied i (U .names)) × (live ≡ emptied i (U .live)) × (phi ≡ emptied i (U .phi)) × (roots ≡ emptied i (U .roots)) × (marks ≡ emptied i (U .marks)) × (labels ≡ replicate (length (U .labels)) 0)
-      → tablesOf (U .keys) numbers (U .heads) (U .next) offs (U .order) (U .starts) (U .loads) live phi (U .readers) roots places names (U .seen) (U .entry) marks labels ≡ cleared T
+      → tablesOf (U .keys) numbers (U .spare) offs (U .order) (U .starts) (U .loads) live phi roots places names marks labels ≡ cleared T
   unfolding cleared zeros
   all-gone w g =
       let H = p .tables in
       rw (
         H .keys,
-        g .0 ∙ numbers-gone f s o o′ T U p i filled,
-        H .heads,
-        H .next,
-        g .1 ∙ offs-gone f s o o′ T U p i filled,
+        g .0 ∙ numbers-gone f s T U p i filled,
+        H .spare,
+        g .1 ∙ offs-gone f s T U p i filled,
         H .order,
         H .starts,
         H .loads,
-        g .4 ∙ live-gone f s o o′ T U p i filled,
-        g .5 ∙ phi-gone f s o o′ T U p i filled,
-        H .readers,
-        g .6 ∙ roots-gone f s o o′ T U p i filled,
-        g .2 ∙ places-gone f s o o′ T U p i filled,
-        g .3 ∙ names-gone f s o o′ T U p i filled,
-        H .seen,
-        H .entry,
-        g .7 ∙ marks-gone f s o o′ T U p i filled,
+        g .4 ∙ live-gone f s T U p i filled,
+        g .5 ∙ phi-gone f s T U p i filled,
+        g .6 ∙ roots-gone f s T U p i filled,
+        g .2 ∙ places-gone f s T U p i filled,
+        g .3 ∙ names-gone f s T U p i filled,
+        g .7 ∙ marks-gone f s T U p i filled,
         zeros-of labels (length (U .labels)) (length (T .labels)) (sym w) (g .8),
       )
       refl
 
   module _ (ready fit : Bool) (n : ℕ) (l₀ k₀ x₀ l k x l′ k′ x′ : List ℕ) (r : Lowered) where
     refusals : fit ≡ lowFits edition1 (lentOf (length l) (length k) (length x)) → n ≡ cond (ready && fit) s 1
-        → n ≡ cond (ready && (lowFits edition1 (lentOf (length l) (length k) (length x)) && long o T)) (judged f) 1
+        → n ≡ cond (ready && (lowFits edition1 (lentOf (length l) (length k) (length x)) && long T)) (judged f) 1
     unfolding answer
     refusals a b =
-        b ∙ ap (λ (m : ℕ). cond (ready && fit) m 1) (p .says) ∙ all-tests ready fit (long o T) (judged f)
-        ∙ ap (λ (t : Bool). cond (ready && (t && long o T)) (judged f) 1) a
+        b ∙ ap (λ (m : ℕ). cond (ready && fit) m 1) (p .says) ∙ all-tests ready fit (long T) (judged f)
+        ∙ ap (λ (t : Bool). cond (ready && (t && long T)) (judged f) 1) a
 
     pub whole : (l ≡ replicate (length l₀) 0) × (k ≡ replicate (length k₀) 0) × (x ≡ replicate (length x₀) 0)
         → fit ≡ lowFits edition1 (lentOf (length l) (length k) (length x)) → n ≡ cond (ready && fit) s 1
@@ -58,14 +54,13 @@ module _ (f : List ℕ) (s : ℕ) (o o′ : List ℕ) (T U : Tables) (p : Filled
         → length (U .labels) ≡ length (T .labels)
         → (numbers ≡ emptied i (U .numbers)) × (offs ≡ emptied i (U .offs)) × (places ≡ emptied i (U .places)) × (names ≡ emptied i (U .names)) × (live ≡ emptied i (U .live)) × (phi ≡ emptied i (U .phi)) × (roots ≡ emptied i (U .roots)) × (marks ≡ emptied i (U .marks))
         × (labels ≡ replicate (length (U .labels)) 0)
-        → LoweredIn ready f o o′ T
-        (tablesOf (U .keys) numbers (U .heads) (U .next) offs (U .order) (U .starts) (U .loads) live phi (U .readers) roots places names (U .seen) (U .entry) marks labels)
+        → LoweredIn ready f T
+        (tablesOf (U .keys) numbers (U .spare) offs (U .order) (U .starts) (U .loads) live phi roots places names marks labels)
         l₀ k₀ x₀ r l′ k′ x′
     unfolding firstOf
     whole z a b e w g = record {
       low =
           e ∙ ap (λ (m : ℕ). lowIn (length l) (length k) (length x) f (upTo8 f m)) (refusals a b)
           ∙ rw (long-zeros l (length l₀) (z .0), long-zeros k (length k₀) (z .1), long-zeros x (length x₀) (z .2)) refl;
-      scratch = p .scratch;
       tables = all-gone w g;
     }

@@ -11,10 +11,10 @@ use Rattle.definition.specs.Offsets.{offsets}
 use Rattle.definition.specs.Tokens.{Line, textOf}
 use Rattle.definition.specs.Blocks.{lower}
 use Rattle.definition.specs.Listing.{refused8, lineWords, tokenWords, tokensOf, padded}
-use Rattle.tables.specs.Tables.{Tables, zeros, cleared, long}
+use Rattle.tables.specs.Tables.{Tables, cleared, long}
 use Rattle.tables.specs.Filled.{judged}
+use Rattle.lent.specs.declared.answer.Lowered.{Lowered}
 use Rattle.lent.specs.Lengths.{lentOf, lowFits}
-use Rattle.lowered.specs.declared.Lowered.{Lowered}
 
 -- what is answered, and the three buffers
 pub record Low : Type 0 where
@@ -52,10 +52,9 @@ lowIn L T B f n =
     })
     (record { number = n; count = 0; lines = replicate L 0; tokens = replicate T 0; text = replicate B 0 })
 
--- from the buffers l, k and x, the reader's scratch and the tables to those at exit
-pub record LoweredIn (ready : Bool) (f owners owners′ : List ℕ) (T T′ : Tables) (l k x : List ℕ) (r : Lowered) (l′ k′ x′ : List ℕ) : Type 0 where
+-- from the buffers l, k and x and the tables to those at exit
+pub record LoweredIn (ready : Bool) (f : List ℕ) (T T′ : Tables) (l k x : List ℕ) (r : Lowered) (l′ k′ x′ : List ℕ) : Type 0 where
   pub low : lowOf r l′ k′ x′
       ≡ lowIn (length l) (length k) (length x) f
-      (firstOf (ready && (lowFits edition1 (lentOf (length l) (length k) (length x)) && long owners T)) f)
-  pub scratch : owners′ ≡ zeros owners
+      (firstOf (ready && (lowFits edition1 (lentOf (length l) (length k) (length x)) && long T)) f)
   pub tables : T′ ≡ cleared T

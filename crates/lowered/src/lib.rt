@@ -5,19 +5,13 @@ mod passed;
 use crate::emptying::clear_handed;
 use crate::emptying::filled;
 use crate::passed::lower_passed;
+use lent::answer::Lowered;
 use lent::clearing::clear_sheet;
 use lent::lengths::first_refusal;
 use lent::lengths::low_fits;
-use tables::fill;
+use tables::sorkhelaw_tables;
 ghost use Rattle.tables.specs.Tables.{tablesOf};
 ghost use Rattle.lowered.specs.Lowered.{LoweredIn};
-
-// The number of the refusal, or 0 and how many lines there are.
-#[repr(C)]
-pub struct Lowered {
-    pub number: u32,
-    pub lines: usize,
-}
 
 // `ready`: whatever else the caller lends has its length. All tables end as zeros.
 #[no_mangle]
@@ -26,52 +20,42 @@ pub extern "C" fn sorkhelaw_lowered(
     lines: &mut [u64],
     tokens: &mut [u64],
     text: &mut [u8],
-    owners: &mut [u32],
     keys: &mut [u64],
     numbers: &mut [u32],
-    heads: &mut [u32],
-    next: &mut [u32],
+    spare: &mut [u32],
     offs: &mut [u64],
     order: &mut [u32],
     starts: &mut [u32],
     loads: &mut [u32],
     live: &mut [u32],
     phi: &mut [u32],
-    readers: &mut [u32],
     roots: &mut [u32],
     places: &mut [u32],
     names: &mut [u32],
-    seen: &mut [u32],
-    entry: &mut [u32],
     marks: &mut [u32],
     labels: &mut [u32],
     ready: bool,
 ) -> Lowered
-    ensures { λ r. ⌜ LoweredIn ready (now (f .entry)) (now (owners .entry)) (now (owners .exit))
-        (tablesOf (now (keys .entry)) (now (numbers .entry)) (now (heads .entry)) (now (next .entry)) (now (offs .entry)) (now (order .entry)) (now (starts .entry)) (now (loads .entry)) (now (live .entry)) (now (phi .entry)) (now (readers .entry)) (now (roots .entry)) (now (places .entry)) (now (names .entry)) (now (seen .entry)) (now (entry .entry)) (now (marks .entry)) (now (labels .entry)))
-        (tablesOf (now (keys .exit)) (now (numbers .exit)) (now (heads .exit)) (now (next .exit)) (now (offs .exit)) (now (order .exit)) (now (starts .exit)) (now (loads .exit)) (now (live .exit)) (now (phi .exit)) (now (readers .exit)) (now (roots .exit)) (now (places .exit)) (now (names .exit)) (now (seen .exit)) (now (entry .exit)) (now (marks .exit)) (now (labels .exit)))
+    ensures { λ r. ⌜ LoweredIn ready (now (f .entry))
+        (tablesOf (now (keys .entry)) (now (numbers .entry)) (now (spare .entry)) (now (offs .entry)) (now (order .entry)) (now (starts .entry)) (now (loads .entry)) (now (live .entry)) (now (phi .entry)) (now (roots .entry)) (now (places .entry)) (now (names .entry)) (now (marks .entry)) (now (labels .entry)))
+        (tablesOf (now (keys .exit)) (now (numbers .exit)) (now (spare .exit)) (now (offs .exit)) (now (order .exit)) (now (starts .exit)) (now (loads .exit)) (now (live .exit)) (now (phi .exit)) (now (roots .exit)) (now (places .exit)) (now (names .exit)) (now (marks .exit)) (now (labels .exit)))
         (now (lines .entry)) (now (tokens .entry)) (now (text .entry)) r (now (lines .exit)) (now (tokens .exit)) (now (text .exit)) ⌝ }
 {
     clear_sheet(lines, tokens, text);
-    let judged = fill(
+    let judged = sorkhelaw_tables(
         f,
-        owners,
         keys,
         numbers,
-        heads,
-        next,
+        spare,
         offs,
         order,
         starts,
         loads,
         live,
         phi,
-        readers,
         roots,
         places,
         names,
-        seen,
-        entry,
         marks,
         labels,
     );

@@ -1,5 +1,5 @@
 // Lowering, where nothing before it refused the file.
-use crate::Lowered;
+use lent::answer::Lowered;
 use lent::clearing::clear_sheet;
 use lower::lower;
 ghost use mathlib.Core.Path.{_≡_};

@@ -94,23 +94,18 @@ fn list(f: &[u8], lines: &mut [u64], tokens: &mut [u64], text: &mut [u8]) -> Ans
     let mut low_lines = [0u64; 3840];
     let mut low_tokens = [0u64; 6144];
     let mut low_text = [0u8; 32768];
-    let mut owners = [0u32; 2048];
     let mut keys = [0u64; 7696];
     let mut numbers = [0u32; 7696];
-    let mut heads = [0u32; 1024];
-    let mut next = [0u32; 7696];
+    let mut spare = [0u32; 7696];
     let mut offs = [0u64; 7696];
     let mut order = [0u32; 2048];
     let mut starts = [0u32; 1025];
     let mut loads = [0u32; 2048];
     let mut live = [0u32; 7696];
     let mut phi = [0u32; 7696];
-    let mut readers = [0u32; 7696];
     let mut roots = [0u32; 7696];
     let mut places = [0u32; 7696];
     let mut names = [0u32; 7696];
-    let mut seen = [0u32; 7696];
-    let mut entry = [0u32; 7696];
     let mut marks = [0u32; 7696];
     let mut labels = [0u32; 320];
     sorkhelaw_list(
@@ -121,23 +116,18 @@ fn list(f: &[u8], lines: &mut [u64], tokens: &mut [u64], text: &mut [u8]) -> Ans
         &mut low_lines,
         &mut low_tokens,
         &mut low_text,
-        &mut owners,
         &mut keys,
         &mut numbers,
-        &mut heads,
-        &mut next,
+        &mut spare,
         &mut offs,
         &mut order,
         &mut starts,
         &mut loads,
         &mut live,
         &mut phi,
-        &mut readers,
         &mut roots,
         &mut places,
         &mut names,
-        &mut seen,
-        &mut entry,
         &mut marks,
         &mut labels,
     )

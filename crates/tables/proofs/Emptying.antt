@@ -23,13 +23,8 @@ again l k m n e p q = zeros-of m (length k) n (sym (p ∙ long-zeros l n e)) q
 -- ---- all tables
 -- tables are equal where all of them are
 pub same-tables : (U W : Tables)
-    → U .keys ≡ W .keys → U .numbers ≡ W .numbers → U .heads ≡ W .heads
-    → U .next ≡ W .next → U .offs ≡ W .offs → U .order ≡ W .order
-    → U .starts ≡ W .starts → U .loads ≡ W .loads → U .live ≡ W .live
-    → U .phi ≡ W .phi → U .readers ≡ W .readers → U .roots ≡ W .roots
-    → U .places ≡ W .places → U .names ≡ W .names → U .seen ≡ W .seen
-    → U .entry ≡ W .entry → U .marks ≡ W .marks → U .labels ≡ W .labels → U ≡ W
-same-tables U W a b d e g h i j k l m n o p q r s t = rw (a, b, d, e, g, h, i, j, k, l, m, n, o, p, q, r, s, t) refl
+    → U .keys ≡ W .keys → U .numbers ≡ W .numbers → U .spare ≡ W .spare → U .offs ≡ W .offs → U .order ≡ W .order → U .starts ≡ W .starts → U .loads ≡ W .loads → U .live ≡ W .live → U .phi ≡ W .phi → U .roots ≡ W .roots → U .places ≡ W .places → U .names ≡ W .names → U .marks ≡ W .marks → U .labels ≡ W .labels → U ≡ W
+same-tables U W a b d e g h i j k l m n o p = rw (a, b, d, e, g, h, i, j, k, l, m, n, o, p) refl
 
 -- a list emptied
 abbrev Empty : List ℕ → List ℕ → Type 0
@@ -37,13 +32,12 @@ Empty l m = m ≡ replicate (length l) 0
 
 pub all-clear : (T T′ : Tables)
     → Empty (T .keys) (T′ .keys) × Empty (T .numbers) (T′ .numbers) × Empty (T .offs) (T′ .offs)
-    → Empty (T .heads) (T′ .heads) × Empty (T .next) (T′ .next) × Empty (T .order) (T′ .order) × Empty (T .starts) (T′ .starts)
-    → Empty (T .loads) (T′ .loads) × Empty (T .live) (T′ .live) × Empty (T .phi) (T′ .phi) × Empty (T .readers) (T′ .readers)
-    → Empty (T .roots) (T′ .roots) × Empty (T .places) (T′ .places) × Empty (T .names) (T′ .names) × Empty (T .seen) (T′ .seen)
-    → Empty (T .entry) (T′ .entry) × Empty (T .marks) (T′ .marks) × Empty (T .labels) (T′ .labels) → T′ ≡ cleared T
+    → Empty (T .order) (T′ .order) × Empty (T .starts) (T′ .starts) × Empty (T .loads) (T′ .loads) × Empty (T .spare) (T′ .spare)
+    → Empty (T .live) (T′ .live) × Empty (T .phi) (T′ .phi) × Empty (T .roots) (T′ .roots) × Empty (T .places) (T′ .places)
+    → Empty (T .names) (T′ .names) × Empty (T .marks) (T′ .marks) × Empty (T .labels) (T′ .labels) → T′ ≡ cleared T
 unfolding cleared zeros
-all-clear T T′ a b d e g =
-    rw (a .0, a .1, a .2, b .0, b .1, b .2, b .3, d .0, d .1, d .2, d .3, e .0, e .1, e .2, e .3, g .0, g .1, g .2) refl
+all-clear T T′ a b d e =
+    rw (a .0, a .1, a .2, b .0, b .1, b .2, b .3, d .0, d .1, d .2, d .3, e .0, e .1, e .2) refl
 
 pub zeros-twice : (l : List ℕ) → zeros (zeros l) ≡ zeros l
 unfolding zeros
@@ -58,6 +52,6 @@ unfolding cleared
 clear-twice T = simp zeros-twice refl
 
 -- emptied tables are as long
-pub long-cleared : (o : List ℕ) (T : Tables) → long (zeros o) (cleared T) ≡ long o T
+pub long-cleared : (T : Tables) → long (cleared T) ≡ long T
 unfolding cleared zeros
-long-cleared o T = simp length-replicate refl
+long-cleared T = simp length-replicate refl

@@ -13,7 +13,6 @@ use Rattle.definition.specs.Edition.{edition1}
 use Rattle.definition.specs.Read.{read, allTrees}
 use Rattle.definition.specs.Offsets.{offsets, refused7}
 use Rattle.definition.specs.Listing.{checked}
-use Rattle.zeros.proofs.Clearing.{own-zeros}
 use Rattle.values.specs.declared.places.Places.{Places}
 use Rattle.values.specs.Keys.{placesOf}
 use Rattle.file.specs.Verdicts.{verdict, Checked}
@@ -21,9 +20,9 @@ use Rattle.analyses.specs.Sound.{Sound}
 use Rattle.analyses.proofs.Sound.{sound}
 use Rattle.tables.specs.Tables.{Tables, tablesOf, most, zeros, cleared, long}
 use Rattle.tables.specs.Filled.{outside, judged, answer, given, Held, Filled}
-use Rattle.tables.specs.Stages.{width, Grounded, Stacked, Counted, Called, Blank, Staged, Analysed}
+use Rattle.tables.specs.Stages.{width, Grounded, Stacked, Unread, Counted, Called, Blank, Staged, Analysed}
 use Rattle.tables.proofs.Emptying.{long-zeros, zeros-of, again, all-clear, zeros-twice, given-twice, clear-twice, long-cleared}
-use Rattle.tables.proofs.Blanks.{long-owners, blank}
+use Rattle.tables.proofs.Blanks.{blank}
 use Rattle.tables.proofs.Lending.{fronts, widened, lent-blank, still-blank, still-staged}
 
 -- ---- tables
@@ -45,20 +44,16 @@ unfolding cleared
 refused-held f r T T′ h e = record {
   keys = ap (λ (U : Tables). U .keys) e;
   numbers = ap (λ (U : Tables). U .numbers) e ∙ none-given r (T .numbers) _ h;
-  heads = ap (λ (U : Tables). U .heads) e;
-  next = ap (λ (U : Tables). U .next) e;
+  spare = ap (λ (U : Tables). U .spare) e;
   offs = λ E p. ap (λ (U : Tables). U .offs) e ∙ none-given r (T .offs) _ h;
   order = ap (λ (U : Tables). U .order) e;
   starts = ap (λ (U : Tables). U .starts) e;
   loads = ap (λ (U : Tables). U .loads) e;
   live = λ E. ap (λ (U : Tables). U .live) e ∙ none-given r (T .live) _ h;
   phi = λ E. ap (λ (U : Tables). U .phi) e ∙ none-given r (T .phi) _ h;
-  readers = ap (λ (U : Tables). U .readers) e;
   roots = λ E. ap (λ (U : Tables). U .roots) e ∙ none-given r (T .roots) _ h;
   places = λ E. ap (λ (U : Tables). U .places) e ∙ none-given r (T .places) _ h;
   names = λ E. ap (λ (U : Tables). U .names) e ∙ none-given r (T .names) _ h;
-  seen = ap (λ (U : Tables). U .seen) e;
-  entry = ap (λ (U : Tables). U .entry) e;
   marks = λ E p. ap (λ (U : Tables). U .marks) e ∙ none-given r (T .marks) _ h;
   labels = λ E. ap (λ (U : Tables). U .labels) e ∙ none-given r (T .labels) _ h;
 }
@@ -69,10 +64,9 @@ module _ (T T′ : Tables) (b : Blank most T) where
       refused-held f r T T′ h
       (all-clear T T′
       (same most (b .unvalued .no-keys) (d .unvalued .no-keys), same most (b .unvalued .no-numbers) (d .unvalued .no-numbers), same most (b .unvalued .no-offs) (d .unvalued .no-offs))
-      (same 1024 (b .unvalued .no-heads) (d .unvalued .no-heads), same most (b .unvalued .no-next) (d .unvalued .no-next), same 2048 (b .unread .no-order) (d .unread .no-order), same 1025 (b .unread .no-starts) (d .unread .no-starts))
-      (same 2048 (b .unread .no-loads) (d .unread .no-loads), same most (b .unread .no-live) (d .unread .no-live), same most (b .unread .no-phi) (d .unread .no-phi), same most (b .unread .no-readers) (d .unread .no-readers))
-      (same most (b .unnamed .no-roots) (d .unnamed .no-roots), same most (b .unnamed .no-places) (d .unnamed .no-places), same most (b .unnamed .no-names) (d .unnamed .no-names), same most (b .unnamed .no-seen) (d .unnamed .no-seen))
-      (same most (b .unnamed .no-entry) (d .unnamed .no-entry), same most (b .unmarked .no-marks) (d .unmarked .no-marks), same 320 (b .unmarked .no-labels) (d .unmarked .no-labels)))
+      (same 2048 (b .unread .no-order) (d .unread .no-order), same 1025 (b .unread .no-starts) (d .unread .no-starts), same 2048 (b .unread .no-loads) (d .unread .no-loads), same most (b .unread .no-spare) (d .unread .no-spare))
+      (same most (b .unread .no-live) (d .unread .no-live), same most (b .unread .no-phi) (d .unread .no-phi), same most (b .unnamed .no-roots) (d .unnamed .no-roots), same most (b .unnamed .no-places) (d .unnamed .no-places))
+      (same most (b .unnamed .no-names) (d .unnamed .no-names), same most (b .unmarked .no-marks) (d .unmarked .no-marks), same 320 (b .unmarked .no-labels) (d .unmarked .no-labels)))
     where
       same : {l m : List ℕ} (n : ℕ) → l ≡ replicate n 0 → m ≡ replicate n 0 → m ≡ replicate (length l) 0
       same {l} {m} n p q = zeros-of m n (length l) (long-zeros l n p) q
@@ -81,20 +75,16 @@ module _ (T T′ : Tables) (b : Blank most T) where
   staged-held f s = record {
     keys = as-zeros (T .keys) (T′ .keys) most (b .unvalued .no-keys) (s .no-keys);
     numbers = s .numbers ∙ all-given (T .numbers) _;
-    heads = as-zeros (T .heads) (T′ .heads) 1024 (b .unvalued .no-heads) (s .no-heads);
-    next = as-zeros (T .next) (T′ .next) most (b .unvalued .no-next) (s .no-next);
+    spare = as-zeros (T .spare) (T′ .spare) most (b .unread .no-spare) (s .counted .no-spare);
     offs = λ E p. s .stacked E p ∙ all-given (T .offs) _;
     order = as-zeros (T .order) (T′ .order) 2048 (b .unread .no-order) (s .counted .no-order);
     starts = as-zeros (T .starts) (T′ .starts) 1025 (b .unread .no-starts) (s .counted .no-starts);
     loads = as-zeros (T .loads) (T′ .loads) 2048 (b .unread .no-loads) (s .counted .no-loads);
     live = λ E. s .counted .times E ∙ all-given (T .live) _;
     phi = λ E. s .counted .flows E ∙ all-given (T .phi) _;
-    readers = as-zeros (T .readers) (T′ .readers) most (b .unread .no-readers) (s .counted .no-readers);
     roots = λ E. s .called .rooted E ∙ all-given (T .roots) _;
     places = λ E. s .called .placed E ∙ all-given (T .places) _;
     names = λ E. s .called .named E ∙ all-given (T .names) _;
-    seen = as-zeros (T .seen) (T′ .seen) most (b .unnamed .no-seen) (s .called .no-seen);
-    entry = as-zeros (T .entry) (T′ .entry) most (b .unnamed .no-entry) (s .called .no-entry);
     marks = λ E p. s .called .marked .really E p ∙ all-given (T .marks) _;
     labels = λ E. s .called .marked .labelled E ∙ all-given (T .labels) _;
   }
@@ -124,38 +114,33 @@ module _ (f : List ℕ) (n : ℕ) (U : Tables) (r : Bool) (e : r ≡ refused7 (o
     passed = λ q. s;
   }
 
--- the tables of values emptied again, the others not yet written
-pub wiped : (n : ℕ) (T : Tables) (ks ns os ks′ ns′ hs xs os′ : List ℕ) → Blank n T
-    → length ks ≡ length (T .keys) → length ns ≡ length (T .numbers) → length os ≡ length (T .offs) → length hs ≡ length (T .heads) → length xs ≡ length (T .next)
-    → hs ≡ replicate (length hs) 0 → xs ≡ replicate (length xs) 0
+-- the tables of values emptied again, the others not yet written, or zeros already
+pub wiped : (n : ℕ) (T : Tables) (ks ns os ks′ ns′ spare os′ order : List ℕ) → Blank n T
+    → length ks ≡ length (T .keys) → length ns ≡ length (T .numbers) → length os ≡ length (T .offs)
+    → Unread n order (T .starts) (T .loads) (T .live) (T .phi) spare
     → (ks′ ≡ replicate (length ks) 0) × (ns′ ≡ replicate (length ns) 0) × (os′ ≡ replicate (length os) 0)
-    → Blank n (tablesOf ks′ ns′ hs xs os′ (T .order) (T .starts) (T .loads) (T .live) (T .phi) (T .readers) (T .roots) (T .places) (T .names) (T .seen) (T .entry) (T .marks) (T .labels))
-wiped n T ks ns os ks′ ns′ hs xs os′ b k p o h x eh ex z =
+    → Blank n (tablesOf ks′ ns′ spare os′ order (T .starts) (T .loads) (T .live) (T .phi) (T .roots) (T .places) (T .names) (T .marks) (T .labels))
+wiped n T ks ns os ks′ ns′ spare os′ order b k p o r z =
     let u = b .unvalued in
     record {
       unvalued = record {
         no-keys = again (T .keys) ks ks′ n (u .no-keys) k (z .0);
         no-numbers = again (T .numbers) ns ns′ n (u .no-numbers) p (z .1);
-        no-heads = again (T .heads) hs hs 1024 (u .no-heads) h eh;
-        no-next = again (T .next) xs xs n (u .no-next) x ex;
         no-offs = again (T .offs) os os′ n (u .no-offs) o (z .2);
       };
-      unread = b .unread;
+      unread = r;
       unnamed = b .unnamed;
       unmarked = b .unmarked;
     }
 
 -- what the stages leave together, the keys emptied at last
 pub staged : (f : List ℕ) (T U : Tables) (ks : List ℕ) → Blank (width f) T → length ks ≡ length (T .keys) → U .keys ≡ replicate (length ks) 0
-    → Grounded f (U .numbers) → length (U .heads) ≡ length (T .heads) → U .heads ≡ replicate (length (U .heads)) 0
-    → length (U .next) ≡ length (T .next) → U .next ≡ replicate (length (U .next)) 0 → Stacked f (width f) (U .offs)
-    → Counted f (width f) (U .order) (U .starts) (U .loads) (U .live) (U .phi) (U .readers)
-    → Called f (width f) (U .roots) (U .places) (U .names) (U .seen) (U .entry) (U .marks) (U .labels) → Staged f (width f) U
-staged f T U ks b k ek g h eh x ex s d n = record {
+    → Grounded f (U .numbers) → Stacked f (width f) (U .offs)
+    → Counted f (width f) (U .order) (U .starts) (U .loads) (U .live) (U .phi) (U .spare)
+    → Called f (width f) (U .roots) (U .places) (U .names) (U .marks) (U .labels) → Staged f (width f) U
+staged f T U ks b k ek g s d n = record {
   no-keys = again (T .keys) ks (U .keys) (width f) (b .unvalued .no-keys) k ek;
   numbers = g .numbers;
-  no-heads = again (T .heads) (U .heads) (U .heads) 1024 (b .unvalued .no-heads) h eh;
-  no-next = again (T .next) (U .next) (U .next) (width f) (b .unvalued .no-next) x ex;
   stacked = s;
   counted = d;
   called = n;
@@ -180,45 +165,49 @@ module _ (f : List ℕ) (S : Sound f) (T : Tables) (b : Blank most T) (p : Place
       })
 
 -- ---- the refusals in order
-module _ (f o : List ℕ) (T : Tables) (z : T ≡ cleared T) (r : Bool) (e : r ≡ long o T) where
-  pub unlent : o ≡ zeros o → not r ≡ true → Filled f 1 o o T T
+-- the tables with o for the order, which the checks of the file were lent
+abbrev pub ordered : Tables → List ℕ → Tables
+ordered T o = tablesOf (T .keys) (T .numbers) (T .spare) (T .offs) o (T .starts) (T .loads) (T .live) (T .phi) (T .roots) (T .places) (T .names) (T .marks) (T .labels)
+
+module _ (f : List ℕ) (T : Tables) (z : T ≡ cleared T) (r : Bool) (e : r ≡ long T) where
+  pub unlent : not r ≡ true → Filled f 1 T T
   unfolding answer
-  unlent p h = record {
+  unlent h = record {
     says = rw (sym e, not-true r h) refl;
-    scratch = p;
     tables = refused-held f 1 T T (λ q. omega arith) z;
   }
 
   module _ (h : not r ≡ false) where
-    pub are-lent : long o T ≡ true
+    are-lent : long T ≡ true
     are-lent = sym e ∙ not-false r h
 
-    module _ (o′ : List ℕ) (n v : ℕ) (d : Checked f v o o′) (g : n ≡ v) where
-      pub number-is : n ≡ checked edition1 f
+    all-blank : Blank most T
+    all-blank = blank T are-lent z
+
+    module _ (o : List ℕ) (n v : ℕ) (d : Checked f v (T .order) o) (g : n ≡ v) where
+      number-is : n ≡ checked edition1 f
       unfolding verdict
-      number-is = g ∙ d .says ∙ rw (eq-eqb (length o) 2048 (long-owners o T are-lent)) refl
+      number-is = g ∙ d .says ∙ rw (eq-eqb (length (T .order)) 2048 (long-zeros (T .order) 2048 (all-blank .unread .no-order))) refl
 
-      left-zeros : o′ ≡ zeros o
-      unfolding zeros
-      left-zeros = d .left
+      -- the checks leave zeros, as they were given
+      order-back : ordered T o ≡ T
+      order-back = ap (ordered T) (again (T .order) (T .order) o 2048 (all-blank .unread .no-order) refl (d .left) ∙ sym (all-blank .unread .no-order))
 
-      pub stopped : (n ≡ 0 → ⊥) → Filled f n o o′ T T
+      pub stopped : (n ≡ 0 → ⊥) → Filled f n T (ordered T o)
       unfolding answer judged
       stopped k = record {
         says = rw (are-lent, ne-eqb (checked edition1 f) 0 (λ q. k (number-is ∙ q))) number-is;
-        scratch = left-zeros;
-        tables = refused-held f n T T k z;
+        tables = refused-held f n T (ordered T o) k (order-back ∙ z);
       }
 
-      pub passes : n ≡ 0 → Sound f
-      passes k = sound f (sym number-is ∙ k)
+      pub passes : n ≡ 0 → Sound f × Blank most (ordered T o)
+      passes k = (sound f (sym number-is ∙ k), subst (Blank most) (sym order-back) all-blank)
 
-      pub through : (s : ℕ) (U : Tables) → n ≡ 0 → Analysed f most s U → Filled f s o o′ T U
+      pub through : (s : ℕ) (U : Tables) → n ≡ 0 → Analysed f most s U → Filled f s T U
       unfolding answer judged
       through s U k a = record {
         says = rw (are-lent, eq-eqb (checked edition1 f) 0 (sym number-is ∙ k)) (a .says);
-        scratch = left-zeros;
-        tables = analysed-held f T U (blank o T are-lent z) s a;
+        tables = analysed-held f T U all-blank s a;
       }
 
 -- ---- over tables that were emptied first
@@ -227,36 +216,29 @@ unfolding cleared
 held-before f r T T′ h = record {
   keys = h .keys ∙ zeros-twice (T .keys);
   numbers = h .numbers ∙ given-twice r (T .numbers) _;
-  heads = h .heads ∙ zeros-twice (T .heads);
-  next = h .next ∙ zeros-twice (T .next);
+  spare = h .spare ∙ zeros-twice (T .spare);
   offs = λ E p. h .offs E p ∙ given-twice r (T .offs) _;
   order = h .order ∙ zeros-twice (T .order);
   starts = h .starts ∙ zeros-twice (T .starts);
   loads = h .loads ∙ zeros-twice (T .loads);
   live = λ E. h .live E ∙ given-twice r (T .live) _;
   phi = λ E. h .phi E ∙ given-twice r (T .phi) _;
-  readers = h .readers ∙ zeros-twice (T .readers);
   roots = λ E. h .roots E ∙ given-twice r (T .roots) _;
   places = λ E. h .places E ∙ given-twice r (T .places) _;
   names = λ E. h .names E ∙ given-twice r (T .names) _;
-  seen = h .seen ∙ zeros-twice (T .seen);
-  entry = h .entry ∙ zeros-twice (T .entry);
   marks = λ E p. h .marks E p ∙ given-twice r (T .marks) _;
   labels = λ E. h .labels E ∙ given-twice r (T .labels) _;
 }
 
-pub refilled : (f : List ℕ) (r : ℕ) (o o₁ o₂ : List ℕ) (T T₁ T₂ : Tables) → o₁ ≡ replicate (length o) 0 → T₁ ≡ cleared T → Filled f r o₁ o₂ T₁ T₂ → Filled f r o o₂ T T₂
-unfolding answer zeros
-refilled f r o o₁ o₂ T T₁ T₂ p e d =
-    let k : Filled f r (zeros o) o₂ (cleared T) T₂ =
-    subst (λ (U : Tables). Filled f r (zeros o) o₂ U T₂) e (subst (λ (l : List ℕ). Filled f r l o₂ T₁ T₂) p d) in
+pub refilled : (f : List ℕ) (r : ℕ) (T T₁ T₂ : Tables) → T₁ ≡ cleared T → Filled f r T₁ T₂ → Filled f r T T₂
+unfolding answer
+refilled f r T T₁ T₂ e d =
+    let k : Filled f r (cleared T) T₂ = subst (λ (U : Tables). Filled f r U T₂) e d in
     record {
-      says = k .says ∙ ap (λ (b : Bool). cond b (judged f) 1) (long-cleared o T);
-      scratch = k .scratch ∙ zeros-twice o;
+      says = k .says ∙ ap (λ (b : Bool). cond b (judged f) 1) (long-cleared T);
       tables = held-before f r T T₂ (k .tables);
     }
 
 -- what is asked over emptied tables
-pub emptied-first : (o o₁ : List ℕ) (T T₁ : Tables) → o₁ ≡ replicate (length o) 0 → T₁ ≡ cleared T → (o₁ ≡ zeros o₁) × (T₁ ≡ cleared T₁)
-unfolding zeros
-emptied-first o o₁ T T₁ p e = (own-zeros o₁ (length o) p, e ∙ sym (clear-twice T) ∙ ap cleared (sym e))
+pub emptied-first : (T T₁ : Tables) → T₁ ≡ cleared T → T₁ ≡ cleared T₁
+emptied-first T T₁ e = e ∙ sym (clear-twice T) ∙ ap cleared (sym e)

@@ -38,10 +38,10 @@ got : (l t : List ℕ) → given 0 l t ≡ t
 unfolding given
 got l t = refl
 
-module _ (f o o′ : List ℕ) (T T′ : Tables) (p : Filled f 0 o o′ T T′) where
-  judged-none : (long o T ≡ true) × (judged f ≡ 0)
+module _ (f : List ℕ) (T T′ : Tables) (p : Filled f 0 T T′) where
+  judged-none : (long T ≡ true) × (judged f ≡ 0)
   unfolding answer
-  judged-none = chosen (long o T) (judged f) (p .says)
+  judged-none = chosen (long T) (judged f) (p .says)
 
   pub file-checked : checked edition1 f ≡ 0
   file-checked = none-refused f (judged-none .1)
@@ -51,7 +51,7 @@ module _ (f o o′ : List ℕ) (T T′ : Tables) (p : Filled f 0 o o′ T T′) 
 
   -- the tables have their lengths
   pub all-blank : Blank most (cleared T)
-  all-blank = blank (zeros o) (cleared T) (long-cleared o T ∙ judged-none .0) (sym (clear-twice T))
+  all-blank = blank (cleared T) (long-cleared T ∙ judged-none .0) (sym (clear-twice T))
 
   as-long : (l : List ℕ) (n : ℕ) → zeros l ≡ replicate n 0 → length l ≡ n
   unfolding zeros

@@ -16,12 +16,12 @@ use Rattle.tables.proofs.Fronts.{front-zeros, rest-zeros, back-zeros, n
 -- the first n numbers of each table by place
 abbrev pub fronts : ℕ → Tables → Tables
 fronts n T =
-    tablesOf (take n (T .keys)) (take n (T .numbers)) (T .heads) (take n (T .next)) (take n (T .offs)) (T .order) (T .starts) (T .loads) (take n (T .live)) (take n (T .phi)) (take n (T .readers)) (take n (T .roots)) (take n (T .places)) (take n (T .names)) (take n (T .seen)) (take n (T .entry)) (take n (T .marks)) (T .labels)
+    tablesOf (take n (T .keys)) (take n (T .numbers)) (take n (T .spare)) (take n (T .offs)) (T .order) (T .starts) (T .loads) (take n (T .live)) (take n (T .phi)) (take n (T .roots)) (take n (T .places)) (take n (T .names)) (take n (T .marks)) (T .labels)
 
 -- the tables T with the fronts U
 abbrev pub widened : ℕ → Tables → Tables → Tables
 widened n T U =
-    tablesOf (U .keys ++ drop n (T .keys)) (U .numbers ++ drop n (T .numbers)) (U .heads) (U .next ++ drop n (T .next)) (U .offs ++ drop n (T .offs)) (U .order) (U .starts) (U .loads) (U .live ++ drop n (T .live)) (U .phi ++ drop n (T .phi)) (U .readers ++ drop n (T .readers)) (U .roots ++ drop n (T .roots)) (U .places ++ drop n (T .places)) (U .names ++ drop n (T .names)) (U .seen ++ drop n (T .seen)) (U .entry ++ drop n (T .entry)) (U .marks ++ drop n (T .marks)) (U .labels)
+    tablesOf (U .keys ++ drop n (T .keys)) (U .numbers ++ drop n (T .numbers)) (U .spare ++ drop n (T .spare)) (U .offs ++ drop n (T .offs)) (U .order) (U .starts) (U .loads) (U .live ++ drop n (T .live)) (U .phi ++ drop n (T .phi)) (U .roots ++ drop n (T .roots)) (U .places ++ drop n (T .places)) (U .names ++ drop n (T .names)) (U .marks ++ drop n (T .marks)) (U .labels)
 
 module _ (n m : ℕ) (h : n ≤ m) (T : Tables) (b : Blank m T) where
   pub lent-blank : Blank n (fronts n T)
@@ -29,8 +29,6 @@ module _ (n m : ℕ) (h : n ≤ m) (T : Tables) (b : Blank m T) where
     unvalued = record {
       no-keys = front-zeros n m h (T .keys) (b .unvalued .no-keys);
       no-numbers = front-zeros n m h (T .numbers) (b .unvalued .no-numbers);
-      no-heads = b .unvalued .no-heads;
-      no-next = front-zeros n m h (T .next) (b .unvalued .no-next);
       no-offs = front-zeros n m h (T .offs) (b .unvalued .no-offs);
     };
     unread = record {
@@ -39,14 +37,12 @@ module _ (n m : ℕ) (h : n ≤ m) (T : Tables) (b : Blank m T) where
       no-loads = b .unread .no-loads;
       no-live = front-zeros n m h (T .live) (b .unread .no-live);
       no-phi = front-zeros n m h (T .phi) (b .unread .no-phi);
-      no-readers = front-zeros n m h (T .readers) (b .unread .no-readers);
+      no-spare = front-zeros n m h (T .spare) (b .unread .no-spare);
     };
     unnamed = record {
       no-roots = front-zeros n m h (T .roots) (b .unnamed .no-roots);
       no-places = front-zeros n m h (T .places) (b .unnamed .no-places);
       no-names = front-zeros n m h (T .names) (b .unnamed .no-names);
-      no-seen = front-zeros n m h (T .seen) (b .unnamed .no-seen);
-      no-entry = front-zeros n m h (T .entry) (b .unnamed .no-entry);
     };
     unmarked = record {
       no-marks = front-zeros n m h (T .marks) (b .unmarked .no-marks);
@@ -60,8 +56,6 @@ module _ (n m : ℕ) (h : n ≤ m) (T : Tables) (b : Blank m T) where
       unvalued = record {
         no-keys = back-zeros n m h (T .keys) (b .unvalued .no-keys) (U .keys) (u .unvalued .no-keys);
         no-numbers = back-zeros n m h (T .numbers) (b .unvalued .no-numbers) (U .numbers) (u .unvalued .no-numbers);
-        no-heads = u .unvalued .no-heads;
-        no-next = back-zeros n m h (T .next) (b .unvalued .no-next) (U .next) (u .unvalued .no-next);
         no-offs = back-zeros n m h (T .offs) (b .unvalued .no-offs) (U .offs) (u .unvalued .no-offs);
       };
       unread = record {
@@ -70,14 +64,12 @@ module _ (n m : ℕ) (h : n ≤ m) (T : Tables) (b : Blank m T) where
         no-loads = u .unread .no-loads;
         no-live = back-zeros n m h (T .live) (b .unread .no-live) (U .live) (u .unread .no-live);
         no-phi = back-zeros n m h (T .phi) (b .unread .no-phi) (U .phi) (u .unread .no-phi);
-        no-readers = back-zeros n m h (T .readers) (b .unread .no-readers) (U .readers) (u .unread .no-readers);
+        no-spare = back-zeros n m h (T .spare) (b .unread .no-spare) (U .spare) (u .unread .no-spare);
       };
       unnamed = record {
         no-roots = back-zeros n m h (T .roots) (b .unnamed .no-roots) (U .roots) (u .unnamed .no-roots);
         no-places = back-zeros n m h (T .places) (b .unnamed .no-places) (U .places) (u .unnamed .no-places);
         no-names = back-zeros n m h (T .names) (b .unnamed .no-names) (U .names) (u .unnamed .no-names);
-        no-seen = back-zeros n m h (T .seen) (b .unnamed .no-seen) (U .seen) (u .unnamed .no-seen);
-        no-entry = back-zeros n m h (T .entry) (b .unnamed .no-entry) (U .entry) (u .unnamed .no-entry);
       };
       unmarked = record {
         no-marks = back-zeros n m h (T .marks) (b .unmarked .no-marks) (U .marks) (u .unmarked .no-marks);
@@ -93,8 +85,6 @@ module _ (n m : ℕ) (h : n ≤ m) (T : Tables) (b : Blank m T) where
     still-staged f bytes own room s = record {
       no-keys = back-zeros n m h (T .keys) (b .unvalued .no-keys) (U .keys) (s .no-keys);
       numbers = goes-on (T .numbers) (U .numbers) _ _ (b .unvalued .no-numbers) (s .numbers) (numbered-front f own n m room h);
-      no-heads = s .no-heads;
-      no-next = back-zeros n m h (T .next) (b .unvalued .no-next) (U .next) (s .no-next);
       stacked = λ E p. goes-on (T .offs) (U .offs) _ _ (b .unvalued .no-offs) (s .stacked E p) (table-front f own n m room h _);
       counted = record {
         no-order = s .counted .no-order;
@@ -102,14 +92,12 @@ module _ (n m : ℕ) (h : n ≤ m) (T : Tables) (b : Blank m T) where
         no-loads = s .counted .no-loads;
         times = λ E. goes-on (T .live) (U .live) _ _ (b .unread .no-live) (s .counted .times E) (table-front f own n m room h _);
         flows = λ E. goes-on (T .phi) (U .phi) _ _ (b .unread .no-phi) (s .counted .flows E) (table-front f own n m room h _);
-        no-readers = back-zeros n m h (T .readers) (b .unread .no-readers) (U .readers) (s .counted .no-readers);
+        no-spare = back-zeros n m h (T .spare) (b .unread .no-spare) (U .spare) (s .counted .no-spare);
       };
       called = record {
         rooted = λ E. goes-on (T .roots) (U .roots) _ _ (b .unnamed .no-roots) (s .called .rooted E) (roots-front f own n m room h bytes E);
         placed = λ E. goes-on (T .places) (U .places) _ _ (b .unnamed .no-places) (s .called .placed E) (table-front f own n m room h _);
         named = λ E. goes-on (T .names) (U .names) _ _ (b .unnamed .no-names) (s .called .named E) (table-front f own n m room h _);
-        no-seen = back-zeros n m h (T .seen) (b .unnamed .no-seen) (U .seen) (s .called .no-seen);
-        no-entry = back-zeros n m h (T .entry) (b .unnamed .no-entry) (U .entry) (s .called .no-entry);
         marked = record {
           really = λ E p. goes-on (T .marks) (U .marks) _ _ (b .unmarked .no-marks) (s .called .marked .really E p) (table-front f own n m room h _);
           labelled = s .called .marked .labelled;

@@ -15,22 +15,27 @@ use Rattle.definition.specs.Offsets.{Known, look, offsets, refused7}
 use Rattle.zeros.proofs.Clearing.{own-zeros}
 use Rattle.values.specs.Keys.{placesOf, keyed}
 use Rattle.values.specs.Tables.{numbered, table}
+use Rattle.values.proofs.Tables.{table-length}
+use Rattle.values.proofs.Placed.{keyed-length}
 use Rattle.reads.specs.Orders.{Ordered}
+use Rattle.reads.specs.Counts.{lastReader}
+use Rattle.names.specs.Given.{EntryRead}
 use Rattle.sums.specs.Ground.{Ground}
 use Rattle.marks.specs.Reading.{ReadRoots}
 use Rattle.marks.specs.Labels.{Labels}
 use Rattle.analyses.specs.Sound.{Sound}
-use Rattle.analyses.specs.Tables.{Unnumbered, Before, ReadAs, Shared, Spare, Named}
+use Rattle.analyses.specs.Tables.{Unnumbered, Before, ReadAs, Shared, Unplaced, Placed, Nameable, Nameless, Named}
 use Rattle.tables.specs.Stages.{width, Grounded, Rooted, Stacked, Stack, Unvalued, Unread, Unnamed, Unmarked, Marked, Called, Counted}
 use Rattle.tables.proofs.Emptying.{long-zeros, zeros-of, again}
 
 -- ---- numbers
-pub unnumbered : (f ks ns hs xs os : List ℕ) → Sound f → Unvalued (width f) ks ns hs xs os → Unnumbered f ks ns hs xs
-unnumbered f ks ns hs xs os s u =
+pub unnumbered : (f ks ns os order starts loads live phi spare : List ℕ) → Sound f → Unvalued (width f) ks ns os → Unread (width f) order starts loads live phi spare
+    → Unnumbered f ks ns order spare
+unnumbered f ks ns os order starts loads live phi spare s u v =
     let k = long-zeros ks (width f) (u .no-keys) in
     let n = long-zeros ns (width f) (u .no-numbers) in
-    let h = long-zeros hs 1024 (u .no-heads) in
-    let x = long-zeros xs (width f) (u .no-next) in
+    let h = long-zeros order 2048 (v .no-order) in
+    let x = long-zeros spare (width f) (v .no-spare) in
     record {
       own = s .own;
       registered = s .registered;
@@ -41,6 +46,19 @@ unnumbered f ks ns hs xs os s u =
       as-next = x ∙ sym k;
       chains = omega (arith, h);
     }
+
+-- the tables that values were numbered with are zeros again
+pub unread-still : (n : ℕ) (order starts loads live phi spare order′ spare′ : List ℕ) → Unread n order starts loads live phi spare
+    → length order′ ≡ length order → order′ ≡ replicate (length order′) 0 → length spare′ ≡ length spare → spare′ ≡ replicate (length spare′) 0
+    → Unread n order′ starts loads live phi spare′
+unread-still n order starts loads live phi spare order′ spare′ u p o q x = record {
+  no-order = again order order′ order′ 2048 (u .no-order) p o;
+  no-starts = u .no-starts;
+  no-loads = u .no-loads;
+  no-live = u .no-live;
+  no-phi = u .no-phi;
+  no-spare = again spare spare′ spare′ n (u .no-spare) q x;
+}
 
 pub grounded : (f ks ns ns′ : List ℕ) → Sound f → ks ≡ replicate (width f) 0 → ns ≡ replicate (width f) 0 → ns′ ≡ numbered f (length ks) → length ns′ ≡ length ns → Grounded f ns′
 grounded f ks ns ns′ s k n e p = record {
@@ -97,7 +115,7 @@ module _ (f ns : List ℕ) (g : Grounded f ns) where
         no-loads = own-zeros loads 2048 (u .no-loads);
         no-live = as-numbers live (u .no-live);
         no-phi = as-numbers phi (u .no-phi);
-        no-readers = as-numbers readers (u .no-readers);
+        no-readers = as-numbers readers (u .no-spare);
         nodes = omega (arith, a, g .sound .nodes, g .sound .few-exprs);
         small = omega (arith, a);
         stmts = omega (arith, b, g .sound .few-stmts);
@@ -107,59 +125,85 @@ module _ (f ns : List ℕ) (g : Grounded f ns) where
   pub read-so : (order starts loads live phi readers : List ℕ) → ReadAs f (length ns) order starts loads live phi readers → ReadAs f (width f) order starts loads live phi readers
   read-so order starts loads live phi readers r = subst (λ (n : ℕ). ReadAs f n order starts loads live phi readers) (g .long) r
 
-  pub counted : (order starts loads live phi readers a b d live′ phi′ e order′ starts′ loads′ readers′ : List ℕ)
-      → Unread (width f) order starts loads live phi readers → ReadAs f (length ns) a b d live′ phi′ e
-      → length a ≡ length order → length b ≡ length starts → length d ≡ length loads → length e ≡ length readers
-      → (order′ ≡ replicate (length a) 0) × (starts′ ≡ replicate (length b) 0) × (loads′ ≡ replicate (length d) 0) × (readers′ ≡ replicate (length e) 0)
-      → Counted f (width f) order′ starts′ loads′ live′ phi′ readers′
-  counted order starts loads live phi readers a b d live′ phi′ e order′ starts′ loads′ readers′ u r p q s t z =
-      let w = read-so a b d live′ phi′ e r in
+  -- spare is written twice before it is emptied: h behind the readers, e behind the names
+  pub counted : (order starts loads live phi spare a b d live′ phi′ h e order′ starts′ loads′ spare′ : List ℕ)
+      → Unread (width f) order starts loads live phi spare → ReadAs f (length ns) a b d live′ phi′ h
+      → length a ≡ length order → length b ≡ length starts → length d ≡ length loads → length e ≡ length spare
+      → (order′ ≡ replicate (length a) 0) × (starts′ ≡ replicate (length b) 0) × (loads′ ≡ replicate (length d) 0) × (spare′ ≡ replicate (length e) 0)
+      → Counted f (width f) order′ starts′ loads′ live′ phi′ spare′
+  counted order starts loads live phi spare a b d live′ phi′ h e order′ starts′ loads′ spare′ u r p q s t z =
+      let w = read-so a b d live′ phi′ h r in
       record {
         no-order = again order a order′ 2048 (u .no-order) p (z .0);
         no-starts = again starts b starts′ 1025 (u .no-starts) q (z .1);
         no-loads = again loads d loads′ 2048 (u .no-loads) s (z .2);
         times = w .times;
         flows = w .flows;
-        no-readers = again readers e readers′ (width f) (u .no-readers) t (z .3);
+        no-spare = again spare e spare′ (width f) (u .no-spare) t (z .3);
       }
 
-  -- ---- variables
+  -- ---- variables and names
   pub shared : (ks order starts loads live phi readers : List ℕ) → ks ≡ keyed f (width f) → ReadAs f (width f) order starts loads live phi readers
-      → Shared f ks ns order starts loads live phi readers
-  shared ks order starts loads live phi readers k r = record {
+      → Shared f ks ns loads live phi readers
+  shared ks order starts loads live phi readers k r =
+      let w : ReadAs f (length ns) order starts loads live phi readers = subst (λ (n : ℕ). ReadAs f n order starts loads live phi readers) (sym (g .long)) r in
+      record {
+        own = g .sound .own;
+        room = few;
+        few = omega (arith, g .long, g .sound .few-places);
+        keys = as-keys ks k;
+        numbers = are-numbers;
+        loaded = w .loaded;
+        times = w .times;
+        flows = w .flows;
+        last = w .last;
+      }
+
+  pub unplaced : (roots places names : List ℕ) → Unnamed (width f) roots places names → Unplaced (length ns) roots places
+  unplaced roots places names u = record {
+    as-roots = long-zeros roots (width f) (u .no-roots) ∙ sym (g .long);
+    no-places = as-numbers places (u .no-places);
+  }
+
+  pub nameable : (roots places order starts : List ℕ) → Placed f (length ns) roots places → Ordered f (length order) (length starts) order starts
+      → Nameable f ns roots places order starts
+  nameable roots places order starts p o = record {
     own = g .sound .own;
     room = few;
     few = omega (arith, g .long, g .sound .few-places);
-    keys = as-keys ks k;
     numbers = are-numbers;
-    reading = subst (λ (n : ℕ). ReadAs f n order starts loads live phi readers) (sym (g .long)) r;
+    variables = p;
+    flat = o;
   }
 
-  pub spare : (roots places names seen entry : List ℕ) → Unnamed (width f) roots places names seen entry → Spare (length ns) roots places names seen entry
-  spare roots places names seen entry u = record {
-    as-roots = long-zeros roots (width f) (u .no-roots) ∙ sym (g .long);
-    no-places = as-numbers places (u .no-places);
+  -- the last readers have a number for each place, and so has what is emptied of them
+  readers-long : (readers : List ℕ) → readers ≡ table f (width f) (lastReader f) → length readers ≡ width f
+  readers-long readers e = ap length e ∙ table-length f (width f) (lastReader f) ∙ keyed-length f (width f) (g .sound .own) (omega arith)
+
+  pub nameless : (roots places names marks labels readers entry : List ℕ) → Unnamed (width f) roots places names → Unmarked (width f) marks labels
+      → readers ≡ table f (width f) (lastReader f) → entry ≡ replicate (length readers) 0 → Nameless (length ns) names marks entry
+  nameless roots places names marks labels readers entry u m r e = record {
     no-names = as-numbers names (u .no-names);
-    no-seen = as-numbers seen (u .no-seen);
-    no-entry = as-numbers entry (u .no-entry);
+    no-seen = as-numbers marks (m .no-marks);
+    no-entry = as-numbers entry (e ∙ ap (λ (n : ℕ). replicate n 0) (readers-long readers r));
   }
 
-  pub named-so : (roots places names seen entry : List ℕ) → Named f (length ns) roots places names seen entry → Named f (width f) roots places names seen entry
-  named-so roots places names seen entry r = subst (λ (n : ℕ). Named f n roots places names seen entry) (g .long) r
+  pub rooted-so : (roots places : List ℕ) → Placed f (length ns) roots places → Placed f (width f) roots places
+  rooted-so roots places r = subst (λ (n : ℕ). Placed f n roots places) (g .long) r
 
-  pub called : (roots places names seen entry roots′ places′ names′ seen′ e entry′ marks labels : List ℕ)
-      → Unnamed (width f) roots places names seen entry → Named f (length ns) roots′ places′ names′ seen′ e → length e ≡ length entry → Marked f (width f) marks labels
-      → entry′ ≡ replicate (length e) 0 → Called f (width f) roots′ places′ names′ seen′ entry′ marks labels
-  called roots places names seen entry roots′ places′ names′ seen′ e entry′ marks labels u r p m z =
-      let w = named-so roots′ places′ names′ seen′ e r in
-      record {
-        rooted = w .rooted;
-        placed = w .placed;
-        named = w .named;
-        no-seen = w .cleared;
-        no-entry = again entry e entry′ (width f) (u .no-entry) p z;
-        marked = m;
-      }
+  named-so : (names seen entry : List ℕ) → Named f (length ns) names seen entry → Named f (width f) names seen entry
+  named-so names seen entry r = subst (λ (n : ℕ). Named f n names seen entry) (g .long) r
+
+  -- the scratch of naming is ready for the marks again
+  pub unmarked-still : (marks labels names seen entry : List ℕ) → Unmarked (width f) marks labels → Named f (length ns) names seen entry → Unmarked (width f) seen labels
+  unmarked-still marks labels names seen entry u r = record { no-marks = named-so names seen entry r .cleared; no-labels = u .no-labels }
+
+  pub called : (roots places names seen entry marks labels : List ℕ) → Placed f (length ns) roots places → Named f (length ns) names seen entry
+      → Marked f (width f) marks labels → Called f (width f) roots places names marks labels × EntryRead f (width f) entry
+  called roots places names seen entry marks labels p r m =
+      let v = rooted-so roots places p in
+      let w = named-so names seen entry r in
+      (record { rooted = v .rooted; placed = v .placed; named = w .named; marked = m }, w .entered)
 
   -- ---- marks
   pub unmarked : (marks labels order starts : List ℕ) → Unmarked (width f) marks labels → Ordered f (length order) (length starts) order starts

@@ -31,8 +31,8 @@ unfoldable pub judged : List ℕ → ℕ
 judged f = cond (eqb (checked edition1 f) 0) (outside f) (checked edition1 f)
 
 -- 1 where a table has not its length
-unfoldable pub answer : List ℕ → List ℕ → Tables → ℕ
-answer f owners T = cond (long owners T) (judged f) 1
+unfoldable pub answer : List ℕ → Tables → ℕ
+answer f T = cond (long T) (judged f) 1
 
 -- t is handed out on 0, and zeros in place of l on a refusal
 unfoldable pub given : ℕ → List ℕ → List ℕ → List ℕ
@@ -42,28 +42,23 @@ given r l t = cond (eqb r 0) t (zeros l)
 pub record Held (f : List ℕ) (r : ℕ) (T T′ : Tables) : Type 0 where
   pub keys : T′ .keys ≡ zeros (T .keys)
   pub numbers : T′ .numbers ≡ given r (T .numbers) (numbered f most)
-  pub heads : T′ .heads ≡ zeros (T .heads)
-  pub next : T′ .next ≡ zeros (T .next)
+  pub spare : T′ .spare ≡ zeros (T .spare)
   pub offs : (E : Edition) → text E ≡ 8 → T′ .offs ≡ given r (T .offs) (table f most (look (offsets (read E f))))
   pub order : T′ .order ≡ zeros (T .order)
   pub starts : T′ .starts ≡ zeros (T .starts)
   pub loads : T′ .loads ≡ zeros (T .loads)
   pub live : (E : Edition) → T′ .live ≡ given r (T .live) (table f most (λ v. count (eqv v) (reads (read E f))))
   pub phi : (E : Edition) → T′ .phi ≡ given r (T .phi) (table f most (λ v. cond (within v (phiReads (read E f))) 1 0))
-  pub readers : T′ .readers ≡ zeros (T .readers)
   pub roots : (E : Edition) → T′ .roots ≡ given r (T .roots) (table f most (λ v. numberOf (keyed f most) (keyOf (find (classes (read E f)) v))))
   pub places : (E : Edition) → T′ .places ≡ given r (T .places) (table f most (placeOf E f))
   pub names : (E : Edition)
       → T′ .names ≡ given r (T .names) (table f most (nameCode (read E f) (classes (read E f)) (inline (read E f) (readsOf (read E f)))))
-  pub seen : T′ .seen ≡ zeros (T .seen)
-  pub entry : T′ .entry ≡ zeros (T .entry)
   pub marks : (E : Edition) → text E ≡ 8
       → T′ .marks ≡ given r (T .marks) (table f most (λ v. cond (within v (readRoots (read E f) (offsets (read E f)) (classes (read E f)))) 1 0))
   pub labels : (E : Edition)
       → T′ .labels ≡ given r (T .labels) (padded 320 (map (λ (b : Block). cond (among (b .start) (jumpsFrom (read E f .blocks))) 1 0) (read E f .blocks)))
 
--- the answer, the reader's scratch left as zeros, and the tables
-pub record Filled (f : List ℕ) (r : ℕ) (owners owners′ : List ℕ) (T T′ : Tables) : Type 0 where
-  pub says : r ≡ answer f owners T
-  pub scratch : owners′ ≡ zeros owners
+-- the answer, and the tables
+pub record Filled (f : List ℕ) (r : ℕ) (T T′ : Tables) : Type 0 where
+  pub says : r ≡ answer f T
   pub tables : Held f r T T′

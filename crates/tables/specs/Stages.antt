@@ -46,27 +46,23 @@ pub record Stack (f : List ℕ) (n : ℕ) (r : Bool) (os : List ℕ) : Type 0 wh
   pub offs : Stacked f n os
 
 -- tables of zeros and of their lengths: what values are numbered with, what is read, named, marked
-pub record Unvalued (n : ℕ) (ks ns hs xs os : List ℕ) : Type 0 where
+pub record Unvalued (n : ℕ) (ks ns os : List ℕ) : Type 0 where
   pub no-keys : ks ≡ replicate n 0
   pub no-numbers : ns ≡ replicate n 0
-  pub no-heads : hs ≡ replicate 1024 0
-  pub no-next : xs ≡ replicate n 0
   pub no-offs : os ≡ replicate n 0
 
-pub record Unread (n : ℕ) (order starts loads live phi readers : List ℕ) : Type 0 where
+pub record Unread (n : ℕ) (order starts loads live phi spare : List ℕ) : Type 0 where
   pub no-order : order ≡ replicate 2048 0
   pub no-starts : starts ≡ replicate 1025 0
   pub no-loads : loads ≡ replicate 2048 0
   pub no-live : live ≡ replicate n 0
   pub no-phi : phi ≡ replicate n 0
-  pub no-readers : readers ≡ replicate n 0
+  pub no-spare : spare ≡ replicate n 0
 
-pub record Unnamed (n : ℕ) (roots places names seen entry : List ℕ) : Type 0 where
+pub record Unnamed (n : ℕ) (roots places names : List ℕ) : Type 0 where
   pub no-roots : roots ≡ replicate n 0
   pub no-places : places ≡ replicate n 0
   pub no-names : names ≡ replicate n 0
-  pub no-seen : seen ≡ replicate n 0
-  pub no-entry : entry ≡ replicate n 0
 
 pub record Unmarked (n : ℕ) (marks labels : List ℕ) : Type 0 where
   pub no-marks : marks ≡ replicate n 0
@@ -78,39 +74,35 @@ pub record Marked (f : List ℕ) (n : ℕ) (marks labels : List ℕ) : Type 0 wh
   pub labelled : Labels f 320 labels
 
 -- the variables and the marks
-pub record Called (f : List ℕ) (n : ℕ) (roots places names seen entry marks labels : List ℕ) : Type 0 where
+pub record Called (f : List ℕ) (n : ℕ) (roots places names marks labels : List ℕ) : Type 0 where
   pub rooted : Rooted f n roots
   pub placed : (E : Edition) → places ≡ table f n (placeOf E f)
   pub named : (E : Edition) → names ≡ table f n (nameCode (read E f) (classes (read E f)) (inline (read E f) (readsOf (read E f))))
-  pub no-seen : seen ≡ replicate n 0
-  pub no-entry : entry ≡ replicate n 0
   pub marked : Marked f n marks labels
 
 -- what is read, of which lowering asks two tables
-pub record Counted (f : List ℕ) (n : ℕ) (order starts loads live phi readers : List ℕ) : Type 0 where
+pub record Counted (f : List ℕ) (n : ℕ) (order starts loads live phi spare : List ℕ) : Type 0 where
   pub no-order : order ≡ replicate 2048 0
   pub no-starts : starts ≡ replicate 1025 0
   pub no-loads : loads ≡ replicate 2048 0
   pub times : LiveReads f n live
   pub flows : PhiReads f n phi
-  pub no-readers : readers ≡ replicate n 0
+  pub no-spare : spare ≡ replicate n 0
 
 -- all tables are zeros and of their lengths
 pub record Blank (n : ℕ) (T : Tables) : Type 0 where
-  pub unvalued : Unvalued n (T .keys) (T .numbers) (T .heads) (T .next) (T .offs)
-  pub unread : Unread n (T .order) (T .starts) (T .loads) (T .live) (T .phi) (T .readers)
-  pub unnamed : Unnamed n (T .roots) (T .places) (T .names) (T .seen) (T .entry)
+  pub unvalued : Unvalued n (T .keys) (T .numbers) (T .offs)
+  pub unread : Unread n (T .order) (T .starts) (T .loads) (T .live) (T .phi) (T .spare)
+  pub unnamed : Unnamed n (T .roots) (T .places) (T .names)
   pub unmarked : Unmarked n (T .marks) (T .labels)
 
 -- all tables hold what lowering asks of the file, the others zeros
 pub record Staged (f : List ℕ) (n : ℕ) (T : Tables) : Type 0 where
   pub no-keys : T .keys ≡ replicate n 0
   pub numbers : T .numbers ≡ numbered f n
-  pub no-heads : T .heads ≡ replicate 1024 0
-  pub no-next : T .next ≡ replicate n 0
   pub stacked : Stacked f n (T .offs)
-  pub counted : Counted f n (T .order) (T .starts) (T .loads) (T .live) (T .phi) (T .readers)
-  pub called : Called f n (T .roots) (T .places) (T .names) (T .seen) (T .entry) (T .marks) (T .labels)
+  pub counted : Counted f n (T .order) (T .starts) (T .loads) (T .live) (T .phi) (T .spare)
+  pub called : Called f n (T .roots) (T .places) (T .names) (T .marks) (T .labels)
 
 -- the answer of a sound file, and what is left
 pub record Analysed (f : List ℕ) (n r : ℕ) (T : Tables) : Type 0 where

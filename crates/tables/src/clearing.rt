@@ -36,29 +36,24 @@ pub fn clear_numbers(keys: &mut [u64], numbers: &mut [u32], offs: &mut [u64])
 pub fn clear_all(
     keys: &mut [u64],
     numbers: &mut [u32],
-    heads: &mut [u32],
-    next: &mut [u32],
+    spare: &mut [u32],
     offs: &mut [u64],
     order: &mut [u32],
     starts: &mut [u32],
     loads: &mut [u32],
     live: &mut [u32],
     phi: &mut [u32],
-    readers: &mut [u32],
     roots: &mut [u32],
     places: &mut [u32],
     names: &mut [u32],
-    seen: &mut [u32],
-    entry: &mut [u32],
     marks: &mut [u32],
     labels: &mut [u32],
 )
-    ensures { λ _. ⌜ tablesOf (now (keys .exit)) (now (numbers .exit)) (now (heads .exit)) (now (next .exit)) (now (offs .exit)) (now (order .exit)) (now (starts .exit)) (now (loads .exit)) (now (live .exit)) (now (phi .exit)) (now (readers .exit)) (now (roots .exit)) (now (places .exit)) (now (names .exit)) (now (seen .exit)) (now (entry .exit)) (now (marks .exit)) (now (labels .exit))
-        ≡ cleared (tablesOf (now (keys .entry)) (now (numbers .entry)) (now (heads .entry)) (now (next .entry)) (now (offs .entry)) (now (order .entry)) (now (starts .entry)) (now (loads .entry)) (now (live .entry)) (now (phi .entry)) (now (readers .entry)) (now (roots .entry)) (now (places .entry)) (now (names .entry)) (now (seen .entry)) (now (entry .entry)) (now (marks .entry)) (now (labels .entry))) ⌝ }
+    ensures { λ _. ⌜ tablesOf (now (keys .exit)) (now (numbers .exit)) (now (spare .exit)) (now (offs .exit)) (now (order .exit)) (now (starts .exit)) (now (loads .exit)) (now (live .exit)) (now (phi .exit)) (now (roots .exit)) (now (places .exit)) (now (names .exit)) (now (marks .exit)) (now (labels .exit))
+        ≡ cleared (tablesOf (now (keys .entry)) (now (numbers .entry)) (now (spare .entry)) (now (offs .entry)) (now (order .entry)) (now (starts .entry)) (now (loads .entry)) (now (live .entry)) (now (phi .entry)) (now (roots .entry)) (now (places .entry)) (now (names .entry)) (now (marks .entry)) (now (labels .entry))) ⌝ }
 {
     clear_numbers(keys, numbers, offs);
-    clear_four(heads, next, order, starts);
-    clear_four(loads, live, phi, readers);
-    clear_four(roots, places, names, seen);
-    clear_three(entry, marks, labels);
+    clear_four(order, starts, loads, spare);
+    clear_four(live, phi, roots, places);
+    clear_three(names, marks, labels);
 }

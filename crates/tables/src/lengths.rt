@@ -1,12 +1,9 @@
 // Whether every table has its length, by the lengths.
 ghost use mathlib.Core.Path.{_≡_};
-ghost use Rattle.tables.specs.Tables.{longValues, longReads, longNames, longMarks, allLong};
+ghost use Rattle.tables.specs.Tables.{longPlaces, longRecords, allLong};
 
 // Numbers for each place of the largest file that may name a value.
 pub const PLACES: usize = 7696;
-
-// Heads of chains.
-pub const HEADS: usize = 1024;
 
 // Numbers for each expression, for each statement and one more, for each block.
 pub const EXPRESSIONS: usize = 2048;
@@ -15,33 +12,28 @@ pub const STARTS: usize = 1025;
 
 pub const BLOCKS: usize = 320;
 
-fn long_values(keys: usize, numbers: usize, heads: usize, next: usize, offs: usize) -> bool
-    ensures { λ r. ⌜ r ≡ longValues keys numbers heads next offs ⌝ }
+// Five tables by place.
+fn long_places(a: usize, b: usize, c: usize, d: usize, e: usize) -> bool
+    ensures { λ r. ⌜ r ≡ longPlaces a b c d e ⌝ }
 {
-    if keys != PLACES {
+    if a != PLACES {
         return false;
     }
-    if numbers != PLACES {
+    if b != PLACES {
         return false;
     }
-    if heads != HEADS {
+    if c != PLACES {
         return false;
     }
-    if next != PLACES {
+    if d != PLACES {
         return false;
     }
-    offs == PLACES
+    e == PLACES
 }
 
-fn long_reads(
-    order: usize,
-    starts: usize,
-    loads: usize,
-    live: usize,
-    phi: usize,
-    readers: usize,
-) -> bool
-    ensures { λ r. ⌜ r ≡ longReads order starts loads live phi readers ⌝ }
+// Those by record.
+fn long_records(order: usize, starts: usize, loads: usize, labels: usize) -> bool
+    ensures { λ r. ⌜ r ≡ longRecords order starts loads labels ⌝ }
 {
     if order != EXPRESSIONS {
         return false;
@@ -52,76 +44,32 @@ fn long_reads(
     if loads != EXPRESSIONS {
         return false;
     }
-    if live != PLACES {
-        return false;
-    }
-    if phi != PLACES {
-        return false;
-    }
-    readers == PLACES
-}
-
-fn long_names(roots: usize, places: usize, names: usize, seen: usize, entry: usize) -> bool
-    ensures { λ r. ⌜ r ≡ longNames roots places names seen entry ⌝ }
-{
-    if roots != PLACES {
-        return false;
-    }
-    if places != PLACES {
-        return false;
-    }
-    if names != PLACES {
-        return false;
-    }
-    if seen != PLACES {
-        return false;
-    }
-    entry == PLACES
-}
-
-fn long_marks(marks: usize, labels: usize) -> bool
-    ensures { λ r. ⌜ r ≡ longMarks marks labels ⌝ }
-{
-    if marks != PLACES {
-        return false;
-    }
     labels == BLOCKS
 }
 
 pub fn are_long(
-    owners: usize,
     keys: usize,
     numbers: usize,
-    heads: usize,
-    next: usize,
+    spare: usize,
     offs: usize,
     order: usize,
     starts: usize,
     loads: usize,
     live: usize,
     phi: usize,
-    readers: usize,
     roots: usize,
     places: usize,
     names: usize,
-    seen: usize,
-    entry: usize,
     marks: usize,
     labels: usize,
 ) -> bool
-    ensures { λ r. ⌜ r ≡ allLong owners keys numbers heads next offs order starts loads live phi readers roots places names seen entry marks labels ⌝ }
+    ensures { λ r. ⌜ r ≡ allLong keys numbers spare offs order starts loads live phi roots places names marks labels ⌝ }
 {
-    if owners != EXPRESSIONS {
+    if !long_places(keys, numbers, spare, offs, live) {
         return false;
     }
-    if !long_values(keys, numbers, heads, next, offs) {
+    if !long_places(phi, roots, places, names, marks) {
         return false;
     }
-    if !long_reads(order, starts, loads, live, phi, readers) {
-        return false;
-    }
-    if !long_names(roots, places, names, seen, entry) {
-        return false;
-    }
-    long_marks(marks, labels)
+    long_records(order, starts, loads, labels)
 }

@@ -1,6 +1,7 @@
 // The stages of a sound file: stack offsets, then what is read, then variables and marks, each over the tables before it.
 use crate::clearing::clear_four;
 use crate::clearing::clear_numbers;
+use analyses::name_variables;
 use analyses::number_values;
 use analyses::read_tables;
 use analyses::variables;
@@ -12,6 +13,7 @@ ghost use mathlib.Core.Path.{_≡_};
 ghost use lib.ListN.{length, replicate};
 ghost use Rattle.values.specs.Keys.{keyed};
 ghost use Rattle.reads.specs.Orders.{Ordered};
+ghost use Rattle.names.specs.Given.{EntryRead};
 ghost use Rattle.analyses.specs.Sound.{Sound};
 ghost use Rattle.analyses.specs.Tables.{ReadAs};
 ghost use Rattle.tables.specs.Tables.{tablesOf};
@@ -53,13 +55,12 @@ fn mark(
     marks::labels::labels(labels, f);
 }
 
-// The variables, then the marks by their roots.
+// The variables, their names, then the marks by their roots. `spare` holds the last readers, then what is read at entry; `marks` is the scratch of naming.
 fn name_all(
     roots: &mut [u32],
     places: &mut [u32],
     names: &mut [u32],
-    seen: &mut [u32],
-    entry: &mut [u32],
+    spare: &mut [u32],
     marks: &mut [u32],
     labels: &mut [u32],
     f: &[u8],
@@ -71,34 +72,30 @@ fn name_all(
     loads: &[u32],
     live: &[u32],
     phi: &[u32],
-    readers: &[u32],
 )
     requires { ⌜ Grounded (now f) (now numbers) ⌝ }
     requires { ⌜ now keys ≡ keyed (now f) (width (now f)) ⌝ }
     requires { ⌜ Stacked (now f) (width (now f)) (now offs) ⌝ }
-    requires { ⌜ ReadAs (now f) (width (now f)) (now order) (now starts) (now loads) (now live) (now phi) (now readers) ⌝ }
-    requires { ⌜ Unnamed (width (now f)) (now roots) (now places) (now names) (now seen) (now entry) ⌝ }
+    requires { ⌜ ReadAs (now f) (width (now f)) (now order) (now starts) (now loads) (now live) (now phi) (now spare) ⌝ }
+    requires { ⌜ Unnamed (width (now f)) (now roots) (now places) (now names) ⌝ }
     requires { ⌜ Unmarked (width (now f)) (now marks) (now labels) ⌝ }
-    ensures { λ _. ⌜ Called (now (f .entry)) (width (now (f .entry))) (now (roots .exit)) (now (places .exit)) (now (names .exit)) (now (seen .exit)) (now (entry .exit)) (now (marks .exit)) (now (labels .exit)) ⌝ }
+    ensures { λ _. ⌜ Called (now (f .entry)) (width (now (f .entry))) (now (roots .exit)) (now (places .exit)) (now (names .exit)) (now (marks .exit)) (now (labels .exit)) ⌝ }
+    ensures { λ _. ⌜ EntryRead (now (f .entry)) (width (now (f .entry))) (now (spare .exit)) ⌝ }
 {
-    variables(
+    variables(roots, places, f, keys, numbers, loads, live, phi, spare);
+    clear_words(spare);
+    name_variables(
+        names,
+        marks,
+        spare,
+        f,
+        numbers,
         roots,
         places,
-        names,
-        seen,
-        entry,
-        f,
-        keys,
-        numbers,
         order,
         starts,
-        loads,
-        live,
-        phi,
-        readers,
     );
     mark(marks, labels, f, numbers, offs, roots, order, starts);
-    clear_words(entry);
 }
 
 // What is read, and what is made from it; tables that lowering does not ask for are emptied.
@@ -108,12 +105,10 @@ fn read_all(
     loads: &mut [u32],
     live: &mut [u32],
     phi: &mut [u32],
-    readers: &mut [u32],
+    spare: &mut [u32],
     roots: &mut [u32],
     places: &mut [u32],
     names: &mut [u32],
-    seen: &mut [u32],
-    entry: &mut [u32],
     marks: &mut [u32],
     labels: &mut [u32],
     f: &[u8],
@@ -124,19 +119,18 @@ fn read_all(
     requires { ⌜ Grounded (now f) (now numbers) ⌝ }
     requires { ⌜ now keys ≡ keyed (now f) (width (now f)) ⌝ }
     requires { ⌜ Stacked (now f) (width (now f)) (now offs) ⌝ }
-    requires { ⌜ Unread (width (now f)) (now order) (now starts) (now loads) (now live) (now phi) (now readers) ⌝ }
-    requires { ⌜ Unnamed (width (now f)) (now roots) (now places) (now names) (now seen) (now entry) ⌝ }
+    requires { ⌜ Unread (width (now f)) (now order) (now starts) (now loads) (now live) (now phi) (now spare) ⌝ }
+    requires { ⌜ Unnamed (width (now f)) (now roots) (now places) (now names) ⌝ }
     requires { ⌜ Unmarked (width (now f)) (now marks) (now labels) ⌝ }
-    ensures { λ _. ⌜ Counted (now (f .entry)) (width (now (f .entry))) (now (order .exit)) (now (starts .exit)) (now (loads .exit)) (now (live .exit)) (now (phi .exit)) (now (readers .exit)) ⌝ }
-    ensures { λ _. ⌜ Called (now (f .entry)) (width (now (f .entry))) (now (roots .exit)) (now (places .exit)) (now (names .exit)) (now (seen .exit)) (now (entry .exit)) (now (marks .exit)) (now (labels .exit)) ⌝ }
+    ensures { λ _. ⌜ Counted (now (f .entry)) (width (now (f .entry))) (now (order .exit)) (now (starts .exit)) (now (loads .exit)) (now (live .exit)) (now (phi .exit)) (now (spare .exit)) ⌝ }
+    ensures { λ _. ⌜ Called (now (f .entry)) (width (now (f .entry))) (now (roots .exit)) (now (places .exit)) (now (names .exit)) (now (marks .exit)) (now (labels .exit)) ⌝ }
 {
-    read_tables(order, starts, loads, live, phi, readers, f, numbers);
+    read_tables(order, starts, loads, live, phi, spare, f, numbers);
     name_all(
         roots,
         places,
         names,
-        seen,
-        entry,
+        spare,
         marks,
         labels,
         f,
@@ -148,39 +142,35 @@ fn read_all(
         loads,
         live,
         phi,
-        readers,
     );
-    clear_four(order, starts, loads, readers);
+    clear_four(order, starts, loads, spare);
 }
 
 // Check 7 and the tables of a sound file; a table by place has a number for each place of the file, and no more.
+// Values are numbered with `order` for the heads of chains and `spare` for the rest of them.
 pub fn analyse(
     keys: &mut [u64],
     numbers: &mut [u32],
-    heads: &mut [u32],
-    next: &mut [u32],
+    spare: &mut [u32],
     offs: &mut [u64],
     order: &mut [u32],
     starts: &mut [u32],
     loads: &mut [u32],
     live: &mut [u32],
     phi: &mut [u32],
-    readers: &mut [u32],
     roots: &mut [u32],
     places: &mut [u32],
     names: &mut [u32],
-    seen: &mut [u32],
-    entry: &mut [u32],
     marks: &mut [u32],
     labels: &mut [u32],
     f: &[u8],
 ) -> u32
     requires { ⌜ Sound (now f) ⌝ }
-    requires { ⌜ Blank (width (now f)) (tablesOf (now keys) (now numbers) (now heads) (now next) (now offs) (now order) (now starts) (now loads) (now live) (now phi) (now readers) (now roots) (now places) (now names) (now seen) (now entry) (now marks) (now labels)) ⌝ }
+    requires { ⌜ Blank (width (now f)) (tablesOf (now keys) (now numbers) (now spare) (now offs) (now order) (now starts) (now loads) (now live) (now phi) (now roots) (now places) (now names) (now marks) (now labels)) ⌝ }
     ensures { λ r. ⌜ Analysed (now (f .entry)) (width (now (f .entry))) r
-        (tablesOf (now (keys .exit)) (now (numbers .exit)) (now (heads .exit)) (now (next .exit)) (now (offs .exit)) (now (order .exit)) (now (starts .exit)) (now (loads .exit)) (now (live .exit)) (now (phi .exit)) (now (readers .exit)) (now (roots .exit)) (now (places .exit)) (now (names .exit)) (now (seen .exit)) (now (entry .exit)) (now (marks .exit)) (now (labels .exit))) ⌝ }
+        (tablesOf (now (keys .exit)) (now (numbers .exit)) (now (spare .exit)) (now (offs .exit)) (now (order .exit)) (now (starts .exit)) (now (loads .exit)) (now (live .exit)) (now (phi .exit)) (now (roots .exit)) (now (places .exit)) (now (names .exit)) (now (marks .exit)) (now (labels .exit))) ⌝ }
 {
-    number_values(keys, numbers, heads, next, f);
+    number_values(keys, numbers, order, spare, f);
     if stack(offs, f, numbers, keys) {
         clear_numbers(keys, numbers, offs);
         return 7;
@@ -191,12 +181,10 @@ pub fn analyse(
         loads,
         live,
         phi,
-        readers,
+        spare,
         roots,
         places,
         names,
-        seen,
-        entry,
         marks,
         labels,
         f,

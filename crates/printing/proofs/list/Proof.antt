@@ -53,32 +53,17 @@ slice-aggregate-sorkhelaw-list-16 c = search needs
 slice-aggregate-sorkhelaw-list-17 : tie.Need-slice-aggregate-sorkhelaw-list-17
 slice-aggregate-sorkhelaw-list-17 c = search needs
 
-slice-aggregate-sorkhelaw-list-18 : tie.Need-slice-aggregate-sorkhelaw-list-18
-slice-aggregate-sorkhelaw-list-18 c = search needs
-
-slice-aggregate-sorkhelaw-list-19 : tie.Need-slice-aggregate-sorkhelaw-list-19
-slice-aggregate-sorkhelaw-list-19 c = search needs
-
-slice-aggregate-sorkhelaw-list-20 : tie.Need-slice-aggregate-sorkhelaw-list-20
-slice-aggregate-sorkhelaw-list-20 c = search needs
-
-slice-aggregate-sorkhelaw-list-21 : tie.Need-slice-aggregate-sorkhelaw-list-21
-slice-aggregate-sorkhelaw-list-21 c = search needs
-
-slice-aggregate-sorkhelaw-list-22 : tie.Need-slice-aggregate-sorkhelaw-list-22
-slice-aggregate-sorkhelaw-list-22 c = search needs
-
 sorkhelaw-list-requires : tie.Need-sorkhelaw-list-requires
 sorkhelaw-list-requires c κs = search needs
 
 same-length : tie.Need-same-length
-same-length c = c .before .before .before .before .before .before .before .before .before .before .before .before .before .before .before .before .before .before .before .before .before .before .before .before .before .before .before .before .sorkhelaw-list .kept .1 .0
+same-length c = c .before .before .before .before .before .before .before .before .before .before .before .before .before .before .before .before .before .before .before .before .before .before .before .sorkhelaw-list .kept .1 .0
 
 same-length-2 : tie.Need-same-length-2
-same-length-2 c = c .before .before .before .before .before .before .before .before .before .before .before .before .before .before .before .before .before .before .before .before .before .before .before .before .before .before .before .before .sorkhelaw-list .kept .1 .1 .0
+same-length-2 c = c .before .before .before .before .before .before .before .before .before .before .before .before .before .before .before .before .before .before .before .before .before .before .before .sorkhelaw-list .kept .1 .1 .0
 
 same-length-3 : tie.Need-same-length-3
-same-length-3 c = c .before .before .before .before .before .before .before .before .before .before .before .before .before .before .before .before .before .before .before .before .before .before .before .before .before .before .before .before .sorkhelaw-list .kept .1 .1 .1 .0
+same-length-3 c = c .before .before .before .before .before .before .before .before .before .before .before .before .before .before .before .before .before .before .before .before .before .before .before .sorkhelaw-list .kept .1 .1 .1 .0
 
 returns : tie.Need-returns
 returns c = search needs
@@ -104,11 +89,6 @@ list-spec =
     slice-aggregate-sorkhelaw-list-15
     slice-aggregate-sorkhelaw-list-16
     slice-aggregate-sorkhelaw-list-17
-    slice-aggregate-sorkhelaw-list-18
-    slice-aggregate-sorkhelaw-list-19
-    slice-aggregate-sorkhelaw-list-20
-    slice-aggregate-sorkhelaw-list-21
-    slice-aggregate-sorkhelaw-list-22
     sorkhelaw-list-requires
     same-length
     same-length-2

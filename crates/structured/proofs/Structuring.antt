@@ -11,9 +11,9 @@ use Rattle.structure.specs.declared.answers.Structured.{Structured}
 use Rattle.structure.specs.declared.answers.Structured.the-variants.{TooDeep, Listed}
 use Rattle.structure.specs.Lowered.{Finishes, lent, resultIn}
 use Rattle.lent.specs.declared.answer.Answer.{Answer}
+use Rattle.lent.specs.declared.answer.Lowered.{Lowered}
 use Rattle.lent.specs.Answers.{refusedWith, answerOf, answered}
-use Rattle.lowered.specs.declared.Lowered.{Lowered}
-use Rattle.lister.specs.Structured.{Lowers, Answers}
+use Rattle.structured.specs.Structured.{Lowers, Answers}
 
 -- a front of zeros is zeros
 front : (k n : ℕ) → take k (replicate {A = ℕ} n 0) ≡ replicate (length (take k (replicate {A = ℕ} n 0))) 0

@@ -8,8 +8,8 @@ use lib.ListN.{length, take, replicate}
 use Rattle.definition.specs.Tokens.{Line}
 use Rattle.definition.specs.Listing.{structure, resultOf, refusal}
 use Rattle.structure.specs.Lowered.{Given, Known, Lends, lent}
-use Rattle.lowered.specs.declared.Lowered.{Lowered}
 use Rattle.lent.specs.declared.answer.Answer.{Answer}
+use Rattle.lent.specs.declared.answer.Lowered.{Lowered}
 use Rattle.lent.specs.Answers.{answered}
 
 -- everything lent is zeros, and of R and S structuring is lent 1,536 rows and 769 spans

@@ -1,10 +1,10 @@
 // The lowered lines structured into the lent buffers, where there are any.
 use lent::answer::Answer;
+use lent::answer::Lowered;
 use lent::answer::answer_of;
 use lent::answer::refused;
-use lowered::Lowered;
 use structure::structure;
-ghost use Rattle.lister.specs.Structured.{Lowers, Answers};
+ghost use Rattle.structured.specs.Structured.{Lowers, Answers};
 
 // What structuring needs: a row for each line and each conditional jump, and a span for each line and one more.
 // It empties all its spans after each region, so it is lent no more of them.

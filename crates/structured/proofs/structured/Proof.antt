@@ -1,9 +1,9 @@
 use mathlib.Core.Path.{sym}
 use lib.Seq.{length-take-le}
-use Rattle.lister.proofs.Structuring.{refuses, finishes}
+use Rattle.structured.proofs.Structuring.{refuses, finishes}
 use borrow.Author.Needs.{needs}
-use Rattle.lister.proofs.structured.structured.Statement.{statement}
-use Rattle.lister.proofs.structured.structured.Tie as tie
+use Rattle.structured.proofs.structured.Statement.{statement}
+use Rattle.structured.proofs.structured.Tie as tie
 
 refused-requires : tie.Need-refused-requires
 refused-requires c κs = search needs
