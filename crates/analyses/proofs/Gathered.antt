@@ -19,7 +19,8 @@ use Rattle.reads.specs.Loads.{Loads}
 use Rattle.reads.proofs.Visits.{ordered-runs}
 use Rattle.inline.specs.Placing.{placeOf, Told}
 use Rattle.inline.proofs.Forgetting.{in-place}
-use Rattle.names.specs.Given.{Numbered, EntryRead, NamesAll}
+use Rattle.names.specs.Given.{Numbered, EntryRead}
+use Rattle.naming.specs.Given.{NamesAll}
 use Rattle.analyses.specs.Tables.{Unnumbered, Valued, Before, ReadAs, Shared, Named}
 
 -- ---- numbers of values

@@ -1,6 +1,6 @@
 // Runs the analyses in order over lent tables: the numbers of values, who reads them, and the variables with their names.
 use names::entry::entry_reads;
-use names::naming::naming;
+use naming::naming;
 use reads::counts::live_reads;
 use reads::counts::phi_reads;
 ghost use lib.ListN.{length};

@@ -14,7 +14,7 @@ use Rattle.definition.specs.Classes.{classes}
 use Rattle.definition.specs.Inline.{readsOf, inline}
 use Rattle.values.specs.declared.places.Places.{Places}
 use Rattle.values.specs.Tables.{table}
-use Rattle.offsets.specs.Ground.{Ground}
+use Rattle.sums.specs.Ground.{Ground}
 use Rattle.reads.specs.Counts.{LiveReads, PhiReads}
 use Rattle.names.specs.Codes.{nameCode}
 

@@ -24,8 +24,8 @@ use Rattle.values.specs.Keys.{keyOf, stmtKey, valueOf, keyed}
 use Rattle.values.specs.Tables.{at}
 use Rattle.values.proofs.Tables.{key-not-0, decode}
 use Rattle.values.proofs.Placed.{at-stmt}
-use Rattle.offsets.specs.Ground.{Ground}
-use Rattle.offsets.proofs.Naming.{stmt-inside}
+use Rattle.sums.specs.Ground.{Ground}
+use Rattle.sums.proofs.Naming.{stmt-inside}
 use Rattle.flags.specs.Views.{codeEnum, viewCode, viewSetter, sideOf, signOf, printed, shownRecord, shownBy, shownOf, setting, viewSetting}
 use Rattle.flags.specs.declared.codes.Code.{Code}
 use Rattle.flags.specs.declared.comparison.Operands.{Operands}

@@ -29,7 +29,7 @@ use Rattle.statements.specs.declared.statement.Kind.the-variants.{Flags}
 use Rattle.statements.specs.declared.statement.Stmt.{Stmt as StmtS}
 use Rattle.statements.proofs.Views.{stmt-owned, kind-number}
 use Rattle.inline.specs.Placing.{behind}
-use Rattle.names.proofs.Small.{parts-below}
+use Rattle.naming.proofs.Small.{parts-below}
 use Rattle.room.specs.Room.{Sheet, writeAll, seenSheet}
 use Rattle.room.proofs.Laws.{written-none}
 use Rattle.lowering.specs.Lowered.{loweringOf, lowered}

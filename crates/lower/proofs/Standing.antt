@@ -15,7 +15,7 @@ use Rattle.definition.specs.Shape.{owned}
 use Rattle.values.specs.declared.places.Places.{Places}
 use Rattle.values.specs.Keys.{placesOf}
 use Rattle.records.proofs.Items.{size-small}
-use Rattle.names.proofs.Small.{parts-next, parts-below}
+use Rattle.naming.proofs.Small.{parts-next, parts-below}
 use Rattle.room.specs.declared.out.Out.{Out}
 use Rattle.conditions.specs.declared.operands.Found.{Found}
 use Rattle.conditions.specs.Pairs.{Set}

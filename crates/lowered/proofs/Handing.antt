@@ -25,7 +25,7 @@ use Rattle.values.specs.Tables.{numberOf, numbered, table}
 use Rattle.reads.specs.Counts.{LiveReads, PhiReads}
 use Rattle.inline.specs.Placing.{placeOf}
 use Rattle.names.specs.Codes.{nameCode}
-use Rattle.offsets.specs.Ground.{Ground}
+use Rattle.sums.specs.Ground.{Ground}
 use Rattle.marks.specs.Labels.{Labels}
 use Rattle.lower.specs.Given.{Lowers}
 use Rattle.tables.specs.Tables.{Tables, most}

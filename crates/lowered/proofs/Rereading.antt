@@ -25,10 +25,10 @@ use Rattle.values.specs.Tables.{numberOf, table}
 use Rattle.reads.specs.Uses.{stmtUses}
 use Rattle.reads.specs.Counts.{visit, slots}
 use Rattle.reads.proofs.Statements.{gather-same}
-use Rattle.offsets.specs.Ground.{Ground}
-use Rattle.offsets.specs.Address.{valueAt, addressAt}
-use Rattle.offsets.proofs.Trees.{off-past}
-use Rattle.offsets.proofs.Naming.{off-in}
+use Rattle.sums.specs.Ground.{Ground}
+use Rattle.sums.specs.Address.{valueAt, addressAt}
+use Rattle.sums.proofs.Trees.{off-past}
+use Rattle.sums.proofs.Naming.{off-in}
 use Rattle.marks.specs.Reading.{savedAt, classed, reading, ReadRoots}
 use Rattle.marks.proofs.Saving.{save-other, save-none, save-there}
 use Rattle.marks.proofs.Rooting.{read-done}

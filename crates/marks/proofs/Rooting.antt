@@ -36,9 +36,9 @@ use Rattle.reads.proofs.Statements.{gather-same, stmts-are}
 use Rattle.reads.proofs.Nodes.{IsUse, each-gather, stmt-nodes}
 use Rattle.reads.proofs.Visits.{stmt-run}
 use Rattle.reads.proofs.Named.{Names, mark-all, uses-named}
-use Rattle.names.proofs.Tied.{Mentions, root-number}
+use Rattle.names.proofs.Mentioned.{Mentions, root-number}
 use Rattle.names.proofs.Rooted.{rooted}
-use Rattle.offsets.specs.Ground.{Ground}
+use Rattle.sums.specs.Ground.{Ground}
 use Rattle.marks.specs.Reading.{classed, reading, ReadRoots}
 
 pub class-is : (roots l m : List ℕ) (s x : ℕ) → x ≡ at roots s → m ≡ set l x 1 → m ≡ classed roots l s

@@ -21,7 +21,7 @@ ghost use Rattle.values.specs.Keys.{placesOf};
 ghost use Rattle.values.specs.Tables.{table};
 ghost use Rattle.reads.specs.Orders.{Ordered};
 ghost use Rattle.reads.specs.Counts.{visit, slots, between};
-ghost use Rattle.offsets.specs.Ground.{Ground};
+ghost use Rattle.sums.specs.Ground.{Ground};
 ghost use Rattle.marks.specs.Reading.{classed, reading, ReadRoots};
 
 // Does statement i read nothing that counts: it is dead, or a save.

@@ -1,5 +1,4 @@
 // The prologue's saves of callee-saved registers' entry values to their stack slots.
-use offsets::address::stack_off;
 use records::contents::EXPRESSIONS;
 use records::contents::expr_word;
 use records::contents::size_of;
@@ -7,6 +6,7 @@ use records::owners::STORE;
 use records::owners::USE;
 use records::owners::stmt_field;
 use records::owners::stmt_kind;
+use sums::address::stack_off;
 use text::registers::Register;
 use values::places::Places;
 ghost use mathlib.Core.Path.{_≡_};
@@ -18,7 +18,7 @@ ghost use Rattle.definition.specs.Read.{kindAt, allTrees};
 ghost use Rattle.definition.specs.Offsets.{Known, look};
 ghost use Rattle.definition.specs.Blocks.{isSave};
 ghost use Rattle.values.specs.Tables.{table};
-ghost use Rattle.offsets.specs.Ground.{Ground};
+ghost use Rattle.sums.specs.Ground.{Ground};
 ghost use Rattle.marks.specs.Reading.{savedAt};
 
 // Whether expression n is a callee-saved register's entry value.

@@ -32,7 +32,7 @@ use Rattle.values.specs.Keys.{stmtKey, placesOf}
 use Rattle.values.specs.Tables.{at, numbered, table}
 use Rattle.values.proofs.Placed.{at-stmt, keyed-length, stmt-here}
 use Rattle.names.specs.Codes.{nameText, nameCode}
-use Rattle.names.proofs.Tied.{Mentions, coded-read, root-number}
+use Rattle.names.proofs.Mentioned.{Mentions, coded-read, root-number}
 use Rattle.names.proofs.Rooted.{rooted}
 use Rattle.inline.specs.Placing.{placeOf}
 use Rattle.inline.proofs.Forgetting.{in-place}

@@ -32,7 +32,7 @@ use Rattle.values.proofs.Placed.{at-item, keyed-length, item-here}
 use Rattle.reads.specs.Counts.{readBy, LiveReads, PhiReads}
 use Rattle.reads.proofs.ReadAtAll.{read-by}
 use Rattle.names.specs.Codes.{codeText, nameText, nameCode}
-use Rattle.names.proofs.Tied.{Mentions, coded-read}
+use Rattle.names.proofs.Mentioned.{Mentions, coded-read}
 use Rattle.render.specs.Told.{Told}
 use Rattle.lowering.specs.Lowered.{loweringOf}
 use Rattle.plain.specs.declared.sets.Sets.{Sets}

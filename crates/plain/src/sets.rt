@@ -13,7 +13,7 @@ ghost use Rattle.definition.specs.Edition.{statements};
 ghost use Rattle.definition.specs.Contents.{size};
 ghost use Rattle.definition.specs.Owners.{exprItems, valueItems, firstItem};
 ghost use Rattle.values.specs.Keys.{placesOf};
-ghost use Rattle.offsets.specs.Ground.{Ground};
+ghost use Rattle.sums.specs.Ground.{Ground};
 ghost use Rattle.plain.specs.declared.sets.Sets.the-variants.{Nothing};
 ghost use Rattle.plain.specs.Asm.{withName, tables, codeAt, setsFrom};
 

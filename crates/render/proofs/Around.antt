@@ -17,9 +17,8 @@ use Rattle.definition.specs.Render.{nested, through, operator}
 use Rattle.values.specs.declared.places.Places.{Places}
 use Rattle.values.specs.Keys.{valueOf, keyed}
 use Rattle.values.specs.Tables.{at}
-use Rattle.offsets.specs.Ground.{Ground}
-use Rattle.offsets.proofs.Closed.{some-edition}
-use Rattle.offsets.proofs.Naming.{expr-inside}
+use Rattle.sums.specs.Ground.{Ground}
+use Rattle.sums.proofs.Naming.{some-edition, expr-inside}
 use Rattle.ssa.specs.declared.node.Bin.{Bin as BinS}
 use Rattle.ssa.specs.declared.node.Un.{Un as UnS}
 use Rattle.ssa.specs.declared.node.Load.{Load as LoadS}

@@ -10,7 +10,7 @@ use Rattle.definition.specs.Registers.{regName}
 use Rattle.definition.specs.Lookup.{nameOr}
 use Rattle.definition.specs.Tokens.{Token, tok}
 use Rattle.names.specs.Codes.{nameText}
-use Rattle.offsets.proofs.Closed.{some-edition}
+use Rattle.sums.proofs.Naming.{some-edition}
 use Rattle.room.specs.declared.out.Out.{Out}
 use Rattle.room.specs.Room.{Room, roomOf, emit, emitAll, seen}
 use Rattle.room.proofs.Unique.{piece}

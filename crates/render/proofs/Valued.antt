@@ -30,8 +30,8 @@ use Rattle.values.specs.Keys.{keyOf, valueOf, exprKey, keyed}
 use Rattle.values.specs.Tables.{at, table}
 use Rattle.values.proofs.Tables.{decode, encode, key-not-0, table-read}
 use Rattle.values.proofs.Placed.{keyed-length, at-expr}
-use Rattle.offsets.specs.Ground.{Ground}
-use Rattle.offsets.proofs.Naming.{expr-inside}
+use Rattle.sums.specs.Ground.{Ground}
+use Rattle.sums.proofs.Naming.{expr-inside}
 use Rattle.inline.specs.Placing.{placeOf}
 use Rattle.names.specs.Codes.{nameText, nameCode}
 use Rattle.room.specs.Room.{Room, emit, emitAll, seen}

@@ -14,7 +14,7 @@ use Rattle.definition.specs.Inline.{readsOf, inline}
 use Rattle.values.specs.declared.places.Places.{Places}
 use Rattle.values.specs.Keys.{valueOf, keyed}
 use Rattle.values.specs.Tables.{at, table}
-use Rattle.offsets.specs.Ground.{Ground}
+use Rattle.sums.specs.Ground.{Ground}
 use Rattle.inline.specs.Placing.{placeOf}
 use Rattle.names.specs.Codes.{nameCode}
 

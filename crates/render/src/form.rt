@@ -1,5 +1,4 @@
 // What an expression is written as.
-use offsets::address::stack_off;
 use records::contents::expr_long;
 use records::contents::expr_word;
 use ssa::node::Bin;
@@ -9,6 +8,7 @@ use ssa::node::Node;
 use ssa::node::Un;
 use ssa::node::node_at;
 use ssa::parts::Text;
+use sums::address::stack_off;
 use text::names::is_global;
 use values::places::Places;
 ghost use mathlib.Core.Path.{_≡_};
@@ -22,7 +22,7 @@ ghost use Rattle.definition.specs.Read.{read};
 ghost use Rattle.definition.specs.Offsets.{look, offsets};
 ghost use Rattle.text.specs.Supplied.{isGlobal};
 ghost use Rattle.values.specs.Tables.{table};
-ghost use Rattle.offsets.specs.Ground.{Ground};
+ghost use Rattle.sums.specs.Ground.{Ground};
 ghost use Rattle.render.specs.Forms.{binForm, slotForm, loadForm, formOf};
 
 // A global at an address, of which `size` bytes are loaded.

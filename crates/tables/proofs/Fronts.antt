@@ -24,7 +24,7 @@ use Rattle.values.specs.Tables.{at, firstOf, numberOf, numbersOf, entry, tabled
 use Rattle.values.proofs.Ranges.{at-left, at-right}
 use Rattle.values.proofs.Tables.{encode, first-le, number-at, number-none, numbers-length, tabled-length, same-at, numbered-length, table-length, tabled-at}
 use Rattle.values.proofs.Placed.{places-length, keyed-length}
-use Rattle.names.proofs.Tied.{Mentions}
+use Rattle.names.proofs.Mentioned.{Mentions}
 use Rattle.names.proofs.Rooted.{rooted}
 
 -- ---- zeros in two parts

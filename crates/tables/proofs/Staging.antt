@@ -16,7 +16,7 @@ use Rattle.zeros.proofs.Clearing.{own-zeros}
 use Rattle.values.specs.Keys.{placesOf, keyed}
 use Rattle.values.specs.Tables.{numbered, table}
 use Rattle.reads.specs.Orders.{Ordered}
-use Rattle.offsets.specs.Ground.{Ground}
+use Rattle.sums.specs.Ground.{Ground}
 use Rattle.marks.specs.Reading.{ReadRoots}
 use Rattle.marks.specs.Labels.{Labels}
 use Rattle.analyses.specs.Sound.{Sound}

@@ -5,7 +5,7 @@ use analyses::number_values;
 use analyses::read_tables;
 use analyses::variables;
 use marks::roots::read_roots;
-use offsets::outside::refused7;
+use sums::outside::refused7;
 use zeros::clear_longs;
 use zeros::clear_words;
 ghost use mathlib.Core.Path.{_≡_};

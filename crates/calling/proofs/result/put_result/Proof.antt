@@ -1,5 +1,5 @@
 use Rattle.calling.proofs.Setting.{result-none, result-unread, result-read}
-use Rattle.offsets.proofs.Naming.{stmt-inside}
+use Rattle.sums.proofs.Naming.{stmt-inside}
 use native.Mathlib.Omega.{arith}
 use borrow.Author.Needs.{needs}
 use Rattle.calling.proofs.result.put_result.Statement.{statement}

@@ -11,7 +11,7 @@ use Rattle.definition.specs.Lists.{gather, range}
 use Rattle.values.specs.Tables.{table}
 use Rattle.values.specs.Keys.{placesOf}
 use Rattle.reads.specs.Counts.{visit, slots}
-use Rattle.offsets.proofs.Naming.{grounded}
+use Rattle.sums.proofs.Naming.{grounded}
 use Rattle.marks.specs.Reading.{classed, reading}
 use Rattle.marks.proofs.Visiting.{visits-start, visits-turn, visits-end}
 use Rattle.marks.proofs.Rooting.{read-done}
