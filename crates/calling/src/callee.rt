@@ -2,6 +2,8 @@
 use calls::direct::is_indirect;
 use calls::direct::put_direct;
 use lowering::kinds::PUNCT;
+use pieces::from_file::put_global;
+use pieces::put::put;
 use records::contents::EXPRESSIONS;
 use records::contents::STATEMENTS;
 use records::contents::expr_long;
@@ -12,9 +14,7 @@ use records::owners::CONST;
 use records::owners::LOAD;
 use records::owners::stmt_field;
 use render::expr::expr;
-use room::from_file::put_global;
 use room::out::Out;
-use room::put::put;
 use text::names::is_global;
 use values::places::Places;
 ghost use mathlib.Core.Path.{_≡_};

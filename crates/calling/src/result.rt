@@ -1,11 +1,11 @@
 // The variable that a call's result goes to, where somebody reads it.
 use lowering::kinds::PUNCT;
 use meaning::meaning::bits_of;
+use pieces::put::put;
 use reads::counts::is_read;
 use records::owners::stmt_field;
 use render::code::put_code;
 use room::out::Out;
-use room::put::put;
 use values::places::Places;
 use values::read::at_u32;
 ghost use mathlib.Core.Path.{_≡_};

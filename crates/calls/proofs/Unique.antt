@@ -19,7 +19,7 @@ use Rattle.definition.specs.Blocks.{pendAfter, setAfter, lastLeaves}
 use Rattle.text.proofs.Unique.{equation}
 use Rattle.room.specs.declared.out.Out.{Out}
 use Rattle.room.specs.Room.{Room, roomOf, emit}
-use Rattle.room.proofs.Unique.{piece}
+use Rattle.pieces.proofs.Unique.{piece}
 use Rattle.calls.specs.declared.hex.Hex.{Hex}
 use Rattle.calls.specs.Spelled.{Trimmed, hexed, directText}
 use Rattle.calls.specs.Waiting.{pending}

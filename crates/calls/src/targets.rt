@@ -1,13 +1,13 @@
 // Where a jump goes: the label of a block, or else a supplied name that is no label's, or else the raw address.
 use crate::parts::begins_part;
 use marks::labels::block_of;
+use pieces::from_file::put_name;
+use pieces::piece::Made;
+use pieces::put::put_made;
+use pieces::put::put_outward;
 use records::contents::name_word;
 use records::contents::offset_of;
-use room::from_file::put_name;
 use room::out::Out;
-use room::piece::Made;
-use room::put::put_made;
-use room::put::put_outward;
 use text::names::Found;
 use text::names::name_for;
 ghost use mathlib.Core.Path.{_≡_};

@@ -3,7 +3,7 @@ use crate::clip::Clip;
 use crate::clip::clip_from;
 use crate::clip::clip_to;
 use crate::clip::condition;
-use room::from_file::put_part;
+use pieces::from_file::put_part;
 use room::out::Out;
 use sheet::ranges::none_between;
 use sheet::tokens::end_at;

@@ -1,7 +1,7 @@
 // The signs of comparisons in a range of the lowered text.
 use clips::copies::put_between;
+use pieces::put::put;
 use room::out::Out;
-use room::put::put;
 use sheet::ranges::begins_between;
 use sheet::ranges::contains_between;
 use sheet::ranges::least;

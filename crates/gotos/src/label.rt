@@ -1,11 +1,11 @@
 // A block's label.
 use lowering::kinds::PUNCT;
+use pieces::put::put;
+use pieces::put::put_label;
 use records::contents::block_long;
 use room::line::end_line;
 use room::out::At;
 use room::out::Out;
-use room::put::put;
-use room::put::put_label;
 use values::read::at_u32;
 ghost use mathlib.Core.Path.{_≡_};
 ghost use Prim.Native.Nat.{_<_};

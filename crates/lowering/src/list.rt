@@ -1,11 +1,11 @@
 // Expressions with `, ` between them.
 use crate::kinds::PUNCT;
+use pieces::put::put;
 use records::contents::STATEMENTS;
 use records::contents::item_word;
 use records::contents::size_of;
 use render::expr::expr;
 use room::out::Out;
-use room::put::put;
 use values::places::Places;
 ghost use mathlib.Core.Path.{_≡_};
 ghost use mathlib.Core.List.{map};

@@ -2,8 +2,8 @@
 use crate::negation::put_negated;
 use clips::clip::condition;
 use clips::copies::put_condition;
+use pieces::put::put;
 use room::out::Out;
-use room::put::put;
 ghost use mathlib.Core.Path.{_≡_};
 ghost use Rattle.definition.specs.Negate.{openTokens, closeTokens, doTokens, whileTokens};
 ghost use Rattle.room.specs.Room.{roomOf, emitAll, seen};

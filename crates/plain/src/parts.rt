@@ -1,10 +1,10 @@
 // What lines of several kinds have.
 use lowering::kinds::PUNCT;
+use pieces::put::put;
 use records::contents::STATEMENTS;
 use records::contents::size_of;
 use render::expr::expr;
 use room::out::Out;
-use room::put::put;
 use values::places::Places;
 use values::read::at_u32;
 ghost use mathlib.Core.Path.{_≡_};

@@ -13,7 +13,7 @@ use Rattle.names.specs.Codes.{nameText}
 use Rattle.offsets.proofs.Closed.{some-edition}
 use Rattle.room.specs.declared.out.Out.{Out}
 use Rattle.room.specs.Room.{Room, roomOf, emit, emitAll, seen}
-use Rattle.room.proofs.Unique.{piece}
+use Rattle.pieces.proofs.Unique.{piece}
 use Rattle.render.specs.Gens.{rendered, used}
 
 pub put-code : (x : Room) (bits reg c : ℕ) (k k′ b b′ : List ℕ) (r r′ : Out)

@@ -1,8 +1,8 @@
 // The name that a code says, as a token.
+use pieces::put::put_local;
+use pieces::put::put_param;
+use pieces::put::put_reg;
 use room::out::Out;
-use room::put::put_local;
-use room::put::put_param;
-use room::put::put_reg;
 ghost use mathlib.Core.Path.{_≡_};
 ghost use Rattle.definition.specs.Lookup.{nameOr};
 ghost use Rattle.definition.specs.Registers.{regName};

@@ -1,13 +1,13 @@
 // Pieces that need no other expression.
 use crate::form::Leaf;
+use pieces::from_file::put_global;
+use pieces::from_file::put_part;
+use pieces::put::put;
+use pieces::put::put_num;
+use pieces::put::put_pointer;
+use pieces::put::put_slot;
 use records::contents::offset_of;
-use room::from_file::put_global;
-use room::from_file::put_part;
 use room::out::Out;
-use room::put::put;
-use room::put::put_num;
-use room::put::put_pointer;
-use room::put::put_slot;
 use ssa::parts::Text;
 ghost use mathlib.Core.Path.{_≡_};
 ghost use mathlib.Core.List.{[]};

@@ -1,9 +1,9 @@
 // Two-operand operators: they lose every trailing `s`, and stand between spaces.
 use crate::leaves::PUNCT;
+use pieces::from_file::put_part;
+use pieces::put::put;
 use records::contents::offset_of;
-use room::from_file::put_part;
 use room::out::Out;
-use room::put::put;
 use ssa::parts::Text;
 ghost use mathlib.Core.Path.{_≡_};
 ghost use mathlib.Core.List.{[], _∷_};

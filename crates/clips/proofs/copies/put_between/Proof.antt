@@ -5,7 +5,7 @@ use Rattle.clips.proofs.copies.put_between.Tie as tie
 use Rattle.clips.proofs.copies.put_between.Reads as reads
 use Rattle.clips.proofs.copies.put_between.Lts as lts
 use Rattle.clips.proofs.copies.gap.Reads as gap-reads
-use Rattle.room.proofs.from_file.put_part.Reads as put-part-reads
+use Rattle.pieces.proofs.from_file.put_part.Reads as put-part-reads
 
 gap-requires : tie.Need-gap-requires
 gap-requires c κs = search needs

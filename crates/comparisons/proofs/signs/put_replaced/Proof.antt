@@ -7,7 +7,7 @@ use Rattle.comparisons.proofs.signs.put_replaced.Reads as reads
 use Rattle.comparisons.proofs.signs.put_replaced.Lts as lts
 use Rattle.clips.proofs.copies.put_between.Reads as put-between-reads
 use Rattle.comparisons.proofs.signs.place_between.Reads as place-between-reads
-use Rattle.room.proofs.put.put.Reads as put-reads
+use Rattle.pieces.proofs.put.put.Reads as put-reads
 
 place-between-requires : tie.Need-place-between-requires
 place-between-requires c κs = search needs

@@ -5,7 +5,7 @@ use Rattle.negate.proofs.heads.put_do.Statement.{statement}
 use Rattle.negate.proofs.heads.put_do.Tie as tie
 use Rattle.negate.proofs.heads.put_do.Reads as reads
 use Rattle.negate.proofs.heads.put_do.Lts as lts
-use Rattle.room.proofs.put.put.Reads as put-reads
+use Rattle.pieces.proofs.put.put.Reads as put-reads
 
 slice-aggregate-put : tie.Need-slice-aggregate-put
 slice-aggregate-put c = search needs

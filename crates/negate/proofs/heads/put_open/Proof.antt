@@ -8,7 +8,7 @@ use Rattle.negate.proofs.heads.put_open.Reads as reads
 use Rattle.negate.proofs.heads.put_open.Lts as lts
 use Rattle.clips.proofs.clip.condition.Reads as condition-reads
 use Rattle.negate.proofs.negation.put_negated.Reads as put-negated-reads
-use Rattle.room.proofs.put.put.Reads as put-reads
+use Rattle.pieces.proofs.put.put.Reads as put-reads
 
 slice-aggregate-put : tie.Need-slice-aggregate-put
 slice-aggregate-put c = search needs

@@ -7,7 +7,7 @@ use Rattle.negate.proofs.heads.put_while.Tie as tie
 use Rattle.negate.proofs.heads.put_while.Reads as reads
 use Rattle.negate.proofs.heads.put_while.Lts as lts
 use Rattle.clips.proofs.copies.put_condition.Reads as put-condition-reads
-use Rattle.room.proofs.put.put.Reads as put-reads
+use Rattle.pieces.proofs.put.put.Reads as put-reads
 
 slice-aggregate-put : tie.Need-slice-aggregate-put
 slice-aggregate-put c = search needs

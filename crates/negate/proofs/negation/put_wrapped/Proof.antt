@@ -5,7 +5,7 @@ use Rattle.negate.proofs.negation.put_wrapped.Tie as tie
 use Rattle.negate.proofs.negation.put_wrapped.Reads as reads
 use Rattle.negate.proofs.negation.put_wrapped.Lts as lts
 use Rattle.clips.proofs.copies.put_clip.Reads as put-clip-reads
-use Rattle.room.proofs.put.put.Reads as put-reads
+use Rattle.pieces.proofs.put.put.Reads as put-reads
 
 slice-aggregate-put : tie.Need-slice-aggregate-put
 slice-aggregate-put c = search needs
