@@ -7,7 +7,7 @@ use lib.Dec.{eqb, ltb}
 use lib.ListN.{length, getD, set}
 use Rattle.definition.specs.Values.{Value}
 
--- the entry of the table with the slot of v, and its bit there; two values that share a slot differ by a register from 16 on or by 4,096 versions
+-- the entry of the table with the slot of v, and its bit there; two values that share a slot differ by a register from 16 on or by a multiple of 4,096 versions
 unfoldable pub place : Value → ℕ
 place v = v .reg % 16 * 128 + v .ver / 32 % 128
 

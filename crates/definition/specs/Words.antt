@@ -1,4 +1,4 @@
--- Numbers out of bytes, little-endian (document 01, "The function file"). A number that does not lie wholly inside reads 0.
+-- Numbers out of bytes, little-endian (document 01, "The function file"). A word that does not lie wholly inside reads 0, and so does such a half of a long number.
 use mathlib.Core.List.{List, [], _∷_}
 use Prim.Native.Nat.{ℕ, _+_, _*_}
 use lib.ListN.{take, drop}

@@ -84,7 +84,7 @@ fn form_do(rows: &mut [u64], k: usize, j: usize)
     rows[j] = turn(b, 6);
 }
 
-// Tries the loop at row k: 0 no region, 1 formed, 2 too deep.
+// Tries the loop at row k: 0 no region, 1 formed, 2 too deep, or a row that is not lent, which keeps it total.
 fn try_do(rows: &mut [u64], spans: &mut [u64], n: usize, k: usize) -> usize
     requires { ⌜ k < n ⌝ }
     ensures { λ r. ⌜ tried r (now (rows .exit)) (now (spans .exit)) ≡ doTried (now (rows .entry)) (now (spans .entry)) n k ⌝ }

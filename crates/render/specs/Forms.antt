@@ -25,7 +25,7 @@ use Rattle.render.specs.declared.form.Leaf.the-variants.{Number, Address
 use Rattle.render.specs.declared.form.Form.{Form}
 use Rattle.render.specs.declared.form.Form.the-variants.{Leaf, Use, Bin, Un, Through}
 
--- is place p, which is 0 or 1 and a statement's number, that of a statement before pos
+-- is place p, which is 0, or 1 more than a statement's number, that of a statement before pos
 unfoldable pub opens : ℕ → ℕ → Bool
 opens p pos = not (eqb p 0) && leb p pos
 

@@ -78,7 +78,7 @@ pub fn expr(
     below(tokens, text, out, f, numbers, offs, placed, names, at)
 }
 
-// Whether place k, which is 0 or 1 and a statement's number, is that of a statement before `pos`.
+// Whether place k, which is 0, or 1 more than a statement's number, is that of a statement before `pos`.
 fn is_open(k: u32, pos: u32) -> bool
     ensures { λ r. ⌜ r ≡ opens k pos ⌝ }
 {

@@ -21,7 +21,7 @@ fn replay_into(i: u32, f: &mut [u8]) {
     }
 }
 
-// File i has n bytes; one byte over the limit is enough of a longer one.
+// File i has n bytes: a batch holds none of more than one byte over the limit, which is enough to be refused for it.
 fn replay(i: u32, n: usize) {
     let mut buf = [0u8; 65537];
     if n <= 65537 {

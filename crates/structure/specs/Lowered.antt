@@ -18,7 +18,7 @@ use Rattle.finish.specs.Finishing.{countOf, Lows}
 use Rattle.structure.specs.declared.answers.Structured.{Structured}
 use Rattle.structure.specs.declared.answers.Structured.the-variants.{TooDeep, Listed}
 
--- the buffers ls, ks and t hold the n lines low, which are plain; the tables are zeros and long enough
+-- the buffers ls, ks and t hold the n lines low, which are plain; the rows are zeros, and both tables are long enough
 pub record Given (low : List Line) (ls ks t R S : List ℕ) (n : ℕ) : Type 0 where
   pub held : Lows ls ks t low
   pub rises : (i : ℕ) → i < length low → Rises ks (firstOf ls i) (countOf ls i)
@@ -75,7 +75,7 @@ resultIn (Listed c) l d x = record {
   textBuffer = x;
 }
 
--- from the lent buffers l, d and x to l′, d′ and x′, and the tables as they were
+-- from the lent buffers l, d and x to l′, d′ and x′, and zeros in both tables
 pub record Finishes (ls ks t R S : List ℕ) (n : ℕ) (l d x : List ℕ) (r : Structured) (l′ d′ x′ R′ S′ : List ℕ) : Type 0 where
   pub result : (low : List Line) → Given low ls ks t R S n → (m : ℕ) → Lends low m l d x → resultIn r l′ d′ x′ ≡ resultOf (lent l d x) (structure low)
   pub rows : R′ ≡ replicate (length R) 0

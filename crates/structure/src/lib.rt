@@ -1,7 +1,7 @@
 // From lowered lines in buffers to the finished lines in the lent buffers.
 pub mod answers;
-pub mod passing;
-pub mod writing;
+mod passing;
+mod writing;
 
 use crate::answers::Structured;
 use crate::passing::passes_of;
@@ -10,7 +10,7 @@ use crate::writing::answer;
 use sorts::sorts;
 ghost use Rattle.structure.specs.Lowered.{Known, Finishes};
 
-// The finished lines of the n lowered lines that stand in `from`, `lowered` and `source`. Both tables are zeros again behind it.
+// The finished lines of the n lowered lines that stand in `from`, `lowered` and `source`. Both tables are zeros behind it.
 pub fn structure(
     lines: &mut [u64],
     tokens: &mut [u64],

@@ -30,7 +30,7 @@ at-out l i h = sym (List·getD-eq-default l 0 h)
 pub put-out : (l : List ℕ) (i x : ℕ) → length l ≤ i → l ≡ set l i x
 put-out l i x h = sym (set-out l i x h)
 
--- ---- places: a to e are the sizes that were read
+-- ---- places, by the sizes that were read
 pub places-are : (f : List ℕ) (a p i s l e : ℕ) → a ≡ size f args → p ≡ size f phis → i ≡ size f inputs → s ≡ size f statements → l ≡ size f lists → e ≡ size f expressions
     → _≡_ {A = Places} (record { phis = a; inputs = a + p; stmts = a + p + i; items = a + p + i + s; exprs = a + p + i + s + l; total = a + p + i + s + l + e }) (placesOf f)
 unfolding placesOf

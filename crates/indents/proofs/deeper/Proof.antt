@@ -4,19 +4,15 @@ use Rattle.indents.proofs.Laws.{deeper-fits, deeper-stays}
 use Rattle.indents.proofs.deeper.Statement.{statement}
 use Rattle.indents.proofs.deeper.Tie as tie
 
--- src/lib.rt:19:14
 sub-if1 : tie.Need-sub-if1
 sub-if1 c = search needs
 
--- src/lib.rt:20:16
 add-result : tie.Need-add-result
 add-result c = search needs
 
--- src/lib.rt:20:9
 returns : tie.Need-returns
 returns c = deeper-fits _ _ (omega arith)
 
--- src/lib.rt:16:1
 returns-2 : tie.Need-returns-2
 returns-2 c = deeper-stays _ _ (omega arith)
 
