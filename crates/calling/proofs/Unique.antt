@@ -1,19 +1,15 @@
 -- Each contract of this crate fixes what is seen of the room or the sheet that is left, so no second one meets it.
 use mathlib.Core.Path.{_≡_, sym, _∙_}
-use mathlib.Core.Bool.{Bool}
 use mathlib.Core.List.{List}
 use Prim.Native.Nat.{ℕ}
 use Rattle.definition.specs.Edition.{Edition}
 use Rattle.definition.specs.Contents.{text}
-use Rattle.definition.specs.Read.{marked, read}
+use Rattle.definition.specs.Read.{read}
 use Rattle.definition.specs.Lower.{Here, commaList, countSet}
 use Rattle.room.specs.Room.{Room, Sheet, emitAll, seen, writeAll, seenSheet}
 use Rattle.lowering.specs.Lowered.{loweringOf, lowered}
 use Rattle.calls.specs.Waiting.{pending, pushedNodes}
 use Rattle.lowering.specs.Commas.{treesOf}
-
-pub is-pushed : (f : List ℕ) (i : ℕ) (r s : Bool) → r ≡ marked f i 4 → s ≡ marked f i 4 → r ≡ s
-is-pushed f i r s p q = p ∙ sym q
 
 module _ (E : Edition) (t : ℕ) (section : text E ≡ t) (f : List ℕ) where
   pub put-pushed : (from i : ℕ) (r s entry : Room)

@@ -5,7 +5,7 @@ use mathlib.Core.List.{List, [], _∷_, map}
 use Prim.Native.Nat.{ℕ, zero, suc, _+_, _≤_, _<_}
 use native.Mathlib.Omega.{arith}
 use native.Mathlib.Decide.{decLt, ℕ-discrete}
-use lib.ListN.{length, set, length-set, length-map, List·getD-eq-default}
+use lib.ListN.{length, set, length-set, length-map}
 use lib.Seq.{set-out}
 use lib.Dec.{eqb, ltb}
 use borrow.Author.Tests.{lt-ltb, le-ltb, eq-eqb, ne-eqb, ltb-true, ltb-false}
@@ -15,14 +15,11 @@ use Rattle.records.proofs.Editions.{length-range}
 use Rattle.values.specs.Tables.{at}
 use Rattle.values.proofs.Tables.{at-set-same, at-set-other, same-at}
 use Rattle.values.proofs.Ranges.{map-length, at-below}
+use Rattle.values.proofs.Reading.{at-out}
 use Rattle.classes.specs.Roots.{under, rootAt, rootsOf, linked, renamed, merged, rootIn, join}
 use Rattle.classes.proofs.Forest.{root-up, root-top, root-le, root-root, new-lower, own-link}
 
 -- ---- tables
-pub at-out : (l : List ℕ) (i : ℕ) → length l ≤ i → at l i ≡ 0
-unfolding at
-at-out l i h = List·getD-eq-default l 0 h
-
 pub at-range : (n i : ℕ) → i < n → at (range 0 n) i ≡ i
 at-range n i h = ap (λ (l : List ℕ). at l i) (sym (mapped (range 0 n))) ∙ at-below (λ z. z) n i h
   where
@@ -68,7 +65,7 @@ module _ (ks : List ℕ) where
       go (yes h) = let s : i < length (rootsOf ks l) = omega (arith, roots-length l) in rw (lt-ltb i (length (rootsOf ks l)) s) (roots-at l i h)
       go (no h) =
           let s : length (rootsOf ks l) ≤ i = omega (arith, roots-length l) in
-          rw (le-ltb i (length (rootsOf ks l)) s) (sym (root-outside l i (at-out ks i (omega arith))))
+          rw (le-ltb i (length (rootsOf ks l)) s) (sym (root-outside l i (sym (at-out ks i (omega arith)))))
 
   pub roots-same : (l m : List ℕ) → length l ≡ length m → ((i : ℕ) → rootAt ks l i ≡ rootAt ks m i) → rootsOf ks l ≡ rootsOf ks m
   roots-same l m e f =
@@ -218,13 +215,6 @@ module _ (ks : List ℕ) where
       roots-at (range 0 n) i (omega arith) ∙ root-top ks (range 0 n) i t ∙ sym s)
 
 -- ---- a table filled place by place
-pub fill-on : (g : ℕ → ℕ) (l : List ℕ) (c r : ℕ) → c < length l → r ≡ g c → ((j : ℕ) → j < c → at l j ≡ g j) → (j : ℕ) → j < c + 1 → at (set l c r) j ≡ g j
-fill-on g l c r h e f j k = go (ℕ-discrete j c)
-  where
-    go : Dec (j ≡ c) → at (set l c r) j ≡ g j
-    go (yes q) = ap (at (set l c r)) q ∙ at-set-same l c r h ∙ e ∙ ap g (sym q)
-    go (no q) = at-set-other l c j r q ∙ f j (omega arith)
-
 pub fill-end : (g : ℕ → ℕ) (l : List ℕ) (n k : ℕ) → length l ≡ n → n ≤ k → ((j : ℕ) → j < k → at l j ≡ g j) → l ≡ map g (range 0 n)
 fill-end g l n k e h f =
     same-at l (map g (range 0 n)) (e ∙ sym (map-length g 0 n)) (λ i m. f i (omega arith) ∙ sym (at-below g n i (omega arith)))

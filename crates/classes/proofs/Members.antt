@@ -7,8 +7,7 @@ use Rattle.definition.specs.Values.{Value, eqv, before, lesser, greater}
 use Rattle.definition.specs.Classes.{Member, Pair, find, relabel, union, unions, alone}
 use Rattle.definition.proofs.Bools.{by-test, by-cond, both-false, or-right, is-false}
 use Rattle.definition.proofs.ListLaws.{Each, end, _▸_, each-to, each-map}
-use Rattle.definition.proofs.Equal.{eqv-true}
-use Rattle.values.proofs.Tables.{eqv-refl}
+use Rattle.definition.proofs.Equal.{eqv-true, eqv-refl}
 
 -- is the value a member
 unfoldable pub has : List Member → Value → Bool

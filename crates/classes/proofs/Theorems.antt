@@ -15,8 +15,7 @@ use Rattle.definition.specs.Ssa.{Phi, Function, phisOf}
 use Rattle.definition.specs.Classes.{Member, Pair, find, pairs, union, unions, alone, classes}
 use Rattle.definition.proofs.Bools.{by-test, by-cond, both-true, both-false, or-cases}
 use Rattle.definition.proofs.ListLaws.{Each, end, _▸_, each-append, each-head}
-use Rattle.definition.proofs.Equal.{eqv-true}
-use Rattle.values.proofs.Tables.{eqv-refl}
+use Rattle.definition.proofs.Equal.{eqv-true, eqv-refl}
 use Rattle.classes.proofs.Members.{has, Here, Ready, rootLeft, rootRight, find-union, find-alone, alone-ready, union-ready}
 
 -- ---- the order of values

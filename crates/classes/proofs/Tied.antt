@@ -17,8 +17,9 @@ use Rattle.definition.proofs.Equal.{eqv-true}
 use Rattle.values.specs.Keys.{keyOf, valueOf}
 use Rattle.values.specs.Tables.{at, firstOf, numbersOf}
 use Rattle.values.proofs.Tables.{key-not-0, decode, eqv-keys, number-first, number-key}
+use Rattle.values.proofs.Reading.{at-out}
 use Rattle.classes.specs.Roots.{under, renamed, merged, rootIn, join}
-use Rattle.classes.proofs.Labels.{at-out, at-renamed}
+use Rattle.classes.proofs.Labels.{at-renamed}
 use Rattle.classes.proofs.Members.{Here, has, rootLeft, rootRight, find-union}
 
 -- the order of values is the order of keys
@@ -61,7 +62,7 @@ module _ (ks : List ℕ) where
     where
       go : Dec (p < length ks) → p < length ks
       go (yes h) = h
-      go (no h) = absurd (n .named (at-out ks p (omega arith)))
+      go (no h) = absurd (n .named (sym (at-out ks p (omega arith))))
 
   -- the number that stands at a place, and its value
   pub record Names (p : ℕ) (v : Value) : Type 0 where

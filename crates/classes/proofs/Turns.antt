@@ -23,9 +23,10 @@ use Rattle.values.specs.Tables.{at}
 use Rattle.values.specs.declared.places.Places.{Places}
 use Rattle.values.proofs.Tables.{at-set-other, same-at, numbered-length}
 use Rattle.values.proofs.Placed.{keyed-length, phi-here}
+use Rattle.values.proofs.Chaining.{filled-on}
 use Rattle.classes.specs.Given.{Given, Standing}
 use Rattle.classes.specs.Roots.{under, join, joinRun, joinPhi, joinPhis, kept, spared}
-use Rattle.classes.proofs.Labels.{at-range, fill-on, fill-end}
+use Rattle.classes.proofs.Labels.{at-range, fill-end}
 
 -- ---- the order of two numbers
 module _ (ks : List ℕ) (i j : ℕ) where
@@ -67,7 +68,7 @@ module _ (ks ns l₀ : List ℕ) where
 
   pub spare-turn : (l : List ℕ) (i x r : ℕ) → i < length l → x ≡ at l i → r ≡ kept ks ns x i → Sparing ks ns l₀ l i → Sparing ks ns l₀ (set l i r) (i + 1)
   spare-turn l i x r h p q s = record {
-    done = fill-on (λ j. kept ks ns (at l₀ j) j) l i r h (q ∙ ap (λ (y : ℕ). kept ks ns y i) (p ∙ s .rest i (omega arith))) (s .done);
+    done = filled-on (λ j. kept ks ns (at l₀ j) j) l (set l i r) i r (s .done) h (q ∙ ap (λ (y : ℕ). kept ks ns y i) (p ∙ s .rest i (omega arith))) refl;
     rest = (λ j g. at-set-other l i j r (λ e. omega arith) ∙ s .rest j (omega arith));
   }
 

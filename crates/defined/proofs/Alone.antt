@@ -14,7 +14,7 @@ use Rattle.definition.specs.Meaning.{strict, loose, definedOnce}
 use Rattle.defined.specs.Slots.{free, marked, Slots, slots, taken, takes}
 use Rattle.definition.proofs.ListLaws.{count-append}
 use Rattle.definition.proofs.Bools.{both-true}
-use Rattle.defined.proofs.Values.{eqv-true, eqv-self}
+use Rattle.definition.proofs.Equal.{eqv-true, eqv-refl}
 use Rattle.defined.proofs.Bits.{was-free, not-again}
 use Rattle.defined.proofs.Taking.{take-zero, take-clash, take-marked, stays}
 
@@ -86,7 +86,7 @@ count-less v x xs = go (eqv v x)
 
 count-self : (x : Value) (xs : List Value) → 0 < count (eqv x) (x ∷ xs)
 unfolding count
-count-self x xs = rw (eqv-self x) (omega arith)
+count-self x xs = rw (eqv-refl x) (omega arith)
 
 all-by : (p : Value → Bool) (vs : List Value) → ((v : Value) → 0 < count (eqv v) vs → p v ≡ true) → all p vs ≡ true
 unfolding all

@@ -8,14 +8,13 @@ use lib.Dec.{eqb}
 use lib.ListN.{getD}
 use mir.Syntax.{w8}
 use mir.Val.{Fits}
-use borrow.Author.Tests.{eq-eqb, ne-eqb, eqb-true}
+use borrow.Author.Tests.{eq-eqb, ne-eqb}
 use Rattle.definition.specs.Edition.{statements}
 use Rattle.definition.specs.Contents.{size, phiWord, itemWord}
 use Rattle.definition.specs.Owners.{stmtKind, stmtField, exprItems, valueItems, firstItem}
 use Rattle.definition.specs.Shape.{owned}
 use Rattle.definition.specs.Values.{Value, value, eqv}
 use Rattle.definition.specs.Meaning.{phiValue, assigned, callReturns}
-use Rattle.definition.proofs.Bools.{both-true}
 use Rattle.defined.specs.Defined.{itemValue}
 use Rattle.records.proofs.Laws.{both-items}
 use Rattle.records.proofs.Items.{first-turn, items-few, items-fit, exprs-fit}
@@ -28,14 +27,6 @@ other-reg a b h = rw (ne-eqb (a .reg) (b .reg) h)
 pub same-reg : (a b : Value) (t : Bool) → a .reg ≡ b .reg → t ≡ eqb (a .ver) (b .ver) → t ≡ eqv a b
 unfolding eqv
 same-reg a b t h e = rw (eq-eqb (a .reg) (b .reg) h) e
-
-pub eqv-true : (a b : Value) → eqv a b ≡ true → a ≡ b
-unfolding eqv
-eqv-true a b h = let k = both-true _ _ h in ap₂ value (eqb-true (a .reg) (b .reg) (k .0)) (eqb-true (a .ver) (b .ver) (k .1))
-
-pub eqv-self : (a : Value) → eqv a a ≡ true
-unfolding eqv
-eqv-self a = rw (eq-eqb (a .reg) (a .reg) refl, eq-eqb (a .ver) (a .ver) refl)
 
 -- ---- values read
 pub phi-read : (f : List ℕ) (i r n : ℕ) → r ≡ phiWord f i 0 → n ≡ phiWord f i 1 → value r n ≡ phiValue f i

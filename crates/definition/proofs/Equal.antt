@@ -1,7 +1,7 @@
 -- Two expressions that `==` calls equal are equal, by induction over the two, and so are values.
-use mathlib.Core.Path.{_≡_, ap, ap₂}
+use mathlib.Core.Path.{_≡_, refl, ap, ap₂}
 use mathlib.Core.Bool.{true, _&&_, false≢true}
-use borrow.Author.Tests.{eqb-true}
+use borrow.Author.Tests.{eq-eqb, eqb-true}
 use lib.Dec.{eqb}
 use Rattle.definition.specs.Texts.{same}
 use Rattle.definition.specs.Values.{Value, eqv}
@@ -9,6 +9,10 @@ use Rattle.definition.specs.Ssa.{Expr, eqe}
 use Rattle.definition.specs.Ssa.Expr.{Const, Use, Bin, Un, Load, Opaque}
 use Rattle.definition.proofs.Bools.{both-true}
 use Rattle.definition.proofs.TextLaws.{same-eq}
+
+pub eqv-refl : (v : Value) → eqv v v ≡ true
+unfolding eqv
+eqv-refl v = rw (eq-eqb (v .reg) (v .reg) refl, eq-eqb (v .ver) (v .ver) refl)
 
 pub eqv-true : (v u : Value) → eqv v u ≡ true → v ≡ u
 unfolding eqv

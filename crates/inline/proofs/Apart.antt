@@ -20,8 +20,8 @@ use Rattle.defined.specs.Defined.{lone}
 use Rattle.defined.proofs.Defining.{once-is}
 use Rattle.records.proofs.Ranges.{gather-append, range-parts}
 use Rattle.records.proofs.Parts.{owned-parts}
-use Rattle.definition.proofs.Equal.{eqv-true}
-use Rattle.values.proofs.Tables.{eqv-refl, eqv-swap}
+use Rattle.definition.proofs.Equal.{eqv-true, eqv-refl}
+use Rattle.values.proofs.Tables.{eqv-swap}
 use Rattle.inline.specs.Placing.{Placed, placedAt, placedIn, allPlaced, placeIn, placeOf}
 use Rattle.inline.proofs.AtStatement.{target, placed-by}
 use Rattle.inline.proofs.Adding.{gather-last}

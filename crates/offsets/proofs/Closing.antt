@@ -14,7 +14,7 @@ use Rattle.definition.specs.Values.{eqv}
 use Rattle.definition.specs.Offsets.{Known, look, Def, defined, rule, learn, round, rounds, closure}
 use Rattle.definition.proofs.Bools.{by-test}
 use Rattle.definition.proofs.ListLaws.{bit, count-cons, count-at, count-length}
-use Rattle.values.proofs.Tables.{eqv-refl}
+use Rattle.definition.proofs.Equal.{eqv-refl}
 
 -- ---- one definition
 -- what it learns

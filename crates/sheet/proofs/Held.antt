@@ -112,7 +112,7 @@ unfolding hasAddress addressOf
 when-held none = refl
 when-held (some a) = refl
 
-kinds-all : {xs : List Line} → Each Proper xs → Each Kind8 (tokensOf xs)
+pub kinds-all : {xs : List Line} → Each Proper xs → Each Kind8 (tokensOf xs)
 unfolding tokensOf gather
 kinds-all end = end
 kinds-all (p ▸ h) = each-append (p .kinds) (kinds-all h)

@@ -8,13 +8,13 @@ use Rattle.definition.specs.Lists.{gather}
 use Rattle.definition.specs.Tokens.{Token, Line, textOf}
 use Rattle.definition.specs.Passes.{conds, closer}
 use Rattle.definition.specs.Listing.{lineWords, tokenWords, tokensOf, padded}
-use Rattle.definition.proofs.ListLaws.{Each, end, _▸_, each-append}
+use Rattle.definition.proofs.ListLaws.{Each, _▸_}
 use Rattle.definition.proofs.Plain.{Plain}
 use Rattle.room.proofs.Proper.{Kind8, Proper}
 use Rattle.room.proofs.Words.{words-length, rows-length}
 use Rattle.sheet.specs.Buffers.{startAt, endAt, firstOf, lastOf}
 use Rattle.sheet.proofs.Reading.{start-first, start-later}
-use Rattle.sheet.proofs.Held.{held, padded-at}
+use Rattle.sheet.proofs.Held.{held, padded-at, kinds-all}
 use Rattle.clips.specs.Clip.{Rises}
 use Rattle.outline.specs.Rows.{lineAt}
 use Rattle.finish.specs.Finishing.{countOf}
@@ -37,11 +37,6 @@ ends-rise T {ts} e (suc j) h =
     let s = start-later K (suc j) (endAt K j) (λ z. omega arith) (ap (endAt K) (sym p)) in
     let n = words-length 0 ts in
     omega (arith, s, words-rise 0 ts e j h, padded-at T (tokenWords 0 ts) j (omega arith), padded-at T (tokenWords 0 ts) (suc j) (omega arith))
-
-kinds-all : {xs : List Line} → Each Proper xs → Each Kind8 (tokensOf xs)
-unfolding tokensOf gather
-kinds-all end = end
-kinds-all (p ▸ h) = each-append (p .kinds) (kinds-all h)
 
 -- ---- lines
 last-word : (n : ℕ) (xs : List Line) (i : ℕ) → i < length xs → getD (lineWords n xs) (5 * i + 3) 0 ≤ n + length (tokensOf xs)

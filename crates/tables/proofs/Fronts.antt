@@ -3,7 +3,7 @@
 use mathlib.Core.Path.{_≡_, refl, sym, ap, ap₂, subst, _∙_}
 use mathlib.Core.Bool.{Bool, true, false, cond, not, _&&_}
 use mathlib.Core.List.{List, [], _∷_, _++_, append-assoc}
-use Prim.Native.Nat.{ℕ, zero, suc, _+_, _-_, _≤_, _<_}
+use Prim.Native.Nat.{ℕ, suc, _+_, _-_, _≤_, _<_}
 use native.Mathlib.Decide.{decLt}
 use native.Mathlib.Omega.{arith}
 use lib.Dec.{eqb}
@@ -21,7 +21,7 @@ use Rattle.definition.specs.Listing.{padded}
 use Rattle.definition.proofs.Bools.{by-test}
 use Rattle.values.specs.Keys.{keyOf, valueOf, keysOf, placesOf, keyed}
 use Rattle.values.specs.Tables.{at, firstOf, numberOf, numbersOf, entry, tabled, numbered, table}
-use Rattle.values.proofs.Ranges.{at-left, at-right}
+use Rattle.values.proofs.Ranges.{at-left, at-right, zeros-at}
 use Rattle.values.proofs.Tables.{encode, first-le, number-at, number-none, numbers-length, tabled-length, same-at, numbered-length, table-length, tabled-at}
 use Rattle.values.proofs.Placed.{places-length, keyed-length}
 use Rattle.names.proofs.Mentioned.{Mentions}
@@ -50,12 +50,6 @@ module _ (n m : ℕ) (h : n ≤ m) (l : List ℕ) (e : l ≡ replicate m 0) wher
   back-zeros x p = ap₂ (λ (a b : List ℕ). a ++ b) p rest-zeros ∙ sym (zeros-parts n m h)
 
 -- ---- keys with zeros behind them
-at-zeros : (z i : ℕ) → at (replicate z 0) i ≡ 0
-unfolding at
-at-zeros zero i = refl
-at-zeros (suc z) zero = refl
-at-zeros (suc z) (suc i) = at-zeros z i
-
 first-front : (xs ys : List ℕ) (k : ℕ) → firstOf xs k < length xs → firstOf (xs ++ ys) k ≡ firstOf xs k
 unfolding firstOf
 first-front [] ys k h = absurd (omega arith)
@@ -73,7 +67,7 @@ module _ (z : ℕ) where
   at-rest : (l : List ℕ) (i : ℕ) → length l ≤ i → at (l ++ zs) i ≡ 0
   at-rest l i h =
       let e : i ≡ length l + (i - length l) = omega arith in
-      ap (at (l ++ zs)) e ∙ at-right l zs (length l) (i - length l) refl ∙ at-zeros z (i - length l)
+      ap (at (l ++ zs)) e ∙ at-right l zs (length l) (i - length l) refl ∙ zeros-at z (i - length l)
 
   module _ (ks : List ℕ) where
     abbrev more : List ℕ

@@ -12,7 +12,7 @@ use lib.Seq.{ext-getD, getD-set-same, getD-set-other}
 use borrow.Author.Tests.{eqb-true, eqb-false, eq-eqb, ne-eqb, not-true}
 use Rattle.definition.specs.Values.{Value, value, eqv}
 use Rattle.definition.proofs.Bools.{by-test, is-false, eqb-swap}
-use Rattle.definition.proofs.Equal.{eqv-true}
+use Rattle.definition.proofs.Equal.{eqv-true, eqv-refl}
 use Rattle.values.specs.Keys.{keyOf, valueOf, keyed}
 use Rattle.values.specs.Tables.{at, firstOf, numberOf, numbersOf, entry, tabled, numbered, table}
 use Rattle.values.proofs.Ranges.{map-length, at-below}
@@ -34,10 +34,6 @@ unfolding keyOf valueOf
 encode k h =
     let p : 0 < k = omega (arith, h) in
     omega arith
-
-pub eqv-refl : (v : Value) → eqv v v ≡ true
-unfolding eqv
-eqv-refl v = rw (eq-eqb (v .reg) (v .reg) refl, eq-eqb (v .ver) (v .ver) refl)
 
 pub eqv-swap : (v w : Value) → eqv v w ≡ eqv w v
 unfolding eqv

@@ -4,7 +4,7 @@ use mathlib.Core.Path.{_≡_, refl}
 use Prim.Native.Nat.{ℕ, _≤_, _<_, _-_}
 use lib.ListN.{length, length-set}
 use Rattle.values.specs.Tables.{at}
-use Rattle.classes.proofs.Labels.{fill-on}
+use Rattle.values.proofs.Chaining.{filled-on}
 use Rattle.classes.proofs.Turns.{own-end}
 use Rattle.classes.proofs.roots.reset.Statement.{statement}
 use Rattle.classes.proofs.roots.reset.Tie as tie
@@ -35,7 +35,7 @@ loop-less c = omega (arith, length-set (c .before .loop .roots) (c .before .loop
 
 loop-again : tie.Need-loop-again Inv-loop μ-loop
 loop-again c = (
-  fill-on (λ j. j) _ _ _ (c .loop-test .taken) refl (c .before .loop .inv .0),
+  filled-on (λ j. j) _ _ _ _ (c .before .loop .inv .0) (c .loop-test .taken) refl refl,
   omega (arith, length-set (c .before .loop .roots) (c .before .loop .i) (c .before .loop .i)),
   simp length-set (c .before .loop .inv .2),
 )
