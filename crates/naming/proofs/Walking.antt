@@ -17,9 +17,12 @@ use Rattle.defined.specs.declared.value.Defined.the-variants.{Nothing, One}
 use Rattle.defined.specs.Defined.{valueOf, listOf, itemValue}
 use Rattle.values.specs.declared.places.Places.{Places}
 use Rattle.values.specs.Keys.{placesOf}
+use Rattle.values.specs.Tables.{at}
 use Rattle.reads.specs.Uses.{useValue}
 use Rattle.names.specs.Spots.{Spot, Known, State, spot, named, useSpot, useSpots}
-use Rattle.naming.specs.Walk.{walked, inputSpot, phiSpots, fieldSpots, itemSpot, itemSpots, stmtSpots}
+use Rattle.naming.specs.declared.runs.Run.{Run}
+use Rattle.naming.specs.declared.runs.Run.the-variants.{Inputs, Items, Uses}
+use Rattle.naming.specs.Walk.{walked, inputSpot, phiSpots, fieldSpots, itemSpot, itemSpots, stmtSpots, runSpot}
 
 module _ (K : Known) where
   walk-append : (S : State) (xs ys : List Spot) → walked K S (xs ++ ys) ≡ walked K (walked K S xs) ys
@@ -56,18 +59,19 @@ module _ (K : Known) where
   unfolding walked range gather
   runs-end g S R k b h e = let p : b - k ≡ 0 = omega arith in sym (e ∙ rw p)
 
--- ---- spots as they are read
-pub input-spot : (f : List ℕ) (i k from reg ver : ℕ) → from ≡ placesOf f .inputs → reg ≡ phiWord f i 0 → ver ≡ inputAt f k → spot (from + k) (value reg ver) ≡ inputSpot f i k
-unfolding inputSpot
-input-spot f i k from reg ver p q r = rw (p, q, r)
+-- ---- number k of a run, as it is read
+module _ (f order : List ℕ) (P : Places) (run : Run) (k : ℕ) (places : P ≡ placesOf f) where
+  pub input-spot : (i reg ver : ℕ) → run ≡ Inputs i → reg ≡ phiWord f i 0 → ver ≡ inputAt f k → spot (P .inputs + k) (value reg ver) ≡ runSpot f order run k
+  unfolding runSpot inputSpot
+  input-spot i reg ver e q r = rw (e, places, q, r)
 
-pub item-spot : (f : List ℕ) (k from : ℕ) (v : Value) → from ≡ placesOf f .items → v ≡ itemValue f k → spot (from + k) v ≡ itemSpot f k
-unfolding itemSpot
-item-spot f k from v p q = ap₂ (λ (a : ℕ) (w : Value). spot (a + k) w) p q
+  pub item-spot : (v : Value) → run ≡ Items → v ≡ itemValue f k → spot (P .items + k) v ≡ runSpot f order run k
+  unfolding runSpot itemSpot
+  item-spot v e q = rw (e, places, q)
 
-pub use-spot : (f : List ℕ) (n from reg ver : ℕ) → from ≡ placesOf f .exprs → reg ≡ exprWord f n 1 → ver ≡ exprWord f n 2 → spot (from + n) (value reg ver) ≡ useSpot f n
-unfolding useSpot useValue
-use-spot f n from reg ver p q r = rw (p, q, r)
+  pub use-spot : (n reg ver : ℕ) → run ≡ Uses → n ≡ at order k → reg ≡ exprWord f n 1 → ver ≡ exprWord f n 2 → spot (P .exprs + n) (value reg ver) ≡ runSpot f order run k
+  unfolding runSpot useSpot useValue
+  use-spot n reg ver e a q r = rw (e, places, q, r, a)
 
 -- ---- returns
 module _ (K : Known) (p : ℕ) (S : State) (d : Defined) where

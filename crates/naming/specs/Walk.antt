@@ -14,7 +14,9 @@ use Rattle.definition.specs.Read.{marked}
 use Rattle.defined.specs.Defined.{itemValue}
 use Rattle.values.specs.Keys.{placesOf}
 use Rattle.values.specs.Tables.{at}
-use Rattle.names.specs.Spots.{Spot, spot, Known, State, named, useSpots}
+use Rattle.names.specs.Spots.{Spot, spot, Known, State, named, useSpot, useSpots}
+use Rattle.naming.specs.declared.runs.Run.{Run}
+use Rattle.naming.specs.declared.runs.Run.the-variants.{Inputs, Items, Uses}
 
 -- all spots, one behind the other
 unfoldable pub walked : Known → State → List Spot → State
@@ -39,6 +41,12 @@ itemSpot f k = spot (placesOf f .items + k) (itemValue f k)
 
 unfoldable pub itemSpots : List ℕ → ℕ → List Spot
 itemSpots f i = map (itemSpot f) (range (firstItem f i + exprItems f i) (valueItems f i))
+
+-- number k of a run, where `order` has the nodes that are read
+unfoldable pub runSpot : List ℕ → List ℕ → Run → ℕ → Spot
+runSpot f order (Inputs i) k = inputSpot f i k
+runSpot f order Items k = itemSpot f k
+runSpot f order Uses k = useSpot f (at order k)
 
 -- a live statement: definitions, then reads
 unfoldable pub stmtSpots : List ℕ → ℕ → List Spot

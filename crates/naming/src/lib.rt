@@ -1,6 +1,7 @@
 // The name of every value: parameters for argument registers' entry values, locals for the rest, in the order of the walk over the blocks.
 mod phis;
 mod position;
+mod runs;
 mod statements;
 mod walk;
 

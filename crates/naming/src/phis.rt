@@ -1,16 +1,15 @@
 // Live phis with their inputs, in order.
 use crate::position::Walk;
+use crate::runs::Run;
+use crate::runs::name_run;
 use defined::value::RSP;
-use defined::value::Value;
 use defined::value::phi_value;
 use names::key::name_key;
-use records::contents::input_at;
 use records::contents::phi_word;
 use records::owners::phi_inputs;
 use values::places::Places;
 ghost use mathlib.Core.Path.{_≡_};
 ghost use mathlib.Core.Bool.{true};
-ghost use mathlib.Core.List.{map};
 ghost use Prim.Native.Nat.{_+_, _-_, _≤_, _<_};
 ghost use Rattle.definition.specs.Edition.{phis};
 ghost use Rattle.definition.specs.Lists.{gather, range};
@@ -20,42 +19,8 @@ ghost use Rattle.definition.specs.Shape.{owned};
 ghost use Rattle.values.specs.Keys.{placesOf};
 ghost use Rattle.values.specs.Tables.{at};
 ghost use Rattle.names.specs.Spots.{known, state};
-ghost use Rattle.naming.specs.Walk.{walked, inputSpot, phiSpots};
+ghost use Rattle.naming.specs.Walk.{walked, phiSpots};
 ghost use Rattle.naming.specs.Given.{Went, standing};
-
-// The inputs of phi i, from a up to b; those of all phis stand from place `from` on.
-fn name_inputs(
-    names: &mut [u32],
-    seen: &mut [u32],
-    f: &[u8],
-    numbers: &[u32],
-    roots: &[u32],
-    away: &[u32],
-    from: usize,
-    i: u32,
-    a: u32,
-    b: u32,
-    next: u32,
-) -> u32
-    requires { ⌜ from ≡ placesOf (now f) .inputs ⌝ }
-    ensures { λ r. ⌜ state (now (names .exit)) (now (seen .exit)) r
-        ≡ walked (known (now (numbers .entry)) (now (roots .entry)) (now (away .entry))) (state (now (names .entry)) (now (seen .entry)) next)
-        (map (inputSpot (now (f .entry)) i) (range a (b - a))) ⌝ }
-{
-    let reg = phi_word(f, i, 0);
-    let mut next = next;
-    let mut k = a;
-    while k < b {
-        let p = from + k as usize;
-        let v = Value {
-            reg: reg,
-            ver: input_at(f, k),
-        };
-        next = name_key(names, seen, numbers, roots, away, p, v, next);
-        k += 1;
-    }
-    next
-}
 
 // Phi i and its inputs, which begin at a, where it is live and not RSP's.
 fn name_phi(
@@ -65,6 +30,7 @@ fn name_phi(
     numbers: &[u32],
     roots: &[u32],
     away: &[u32],
+    order: &[u32],
     at: Places,
     i: u32,
     a: u32,
@@ -85,8 +51,20 @@ fn name_phi(
     let p = at.phis + i as usize;
     let next = name_key(names, seen, numbers, roots, away, p, v, next);
     let b = a + phi_inputs(f, i);
-    let from = at.inputs;
-    name_inputs(names, seen, f, numbers, roots, away, from, i, a, b, next)
+    name_run(
+        names,
+        seen,
+        f,
+        numbers,
+        roots,
+        away,
+        order,
+        at,
+        Run::Inputs(i),
+        a,
+        b,
+        next,
+    )
 }
 
 // The next phis, up to b.
@@ -97,6 +75,7 @@ pub fn name_phis(
     numbers: &[u32],
     roots: &[u32],
     away: &[u32],
+    order: &[u32],
     at: Places,
     b: u32,
     w: Walk,
@@ -111,7 +90,19 @@ pub fn name_phis(
     let mut next = w.next;
     let mut i = w.phi;
     while i < b {
-        next = name_phi(names, seen, f, numbers, roots, away, at, i, input, next);
+        next = name_phi(
+            names,
+            seen,
+            f,
+            numbers,
+            roots,
+            away,
+            order,
+            at,
+            i,
+            input,
+            next,
+        );
         input += phi_inputs(f, i);
         i += 1;
     }

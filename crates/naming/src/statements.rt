@@ -1,13 +1,12 @@
 // What live statements define and read, in order.
 use crate::position::Walk;
+use crate::runs::Run;
+use crate::runs::name_run;
 use defined::value::Defined;
-use defined::value::Value;
 use defined::value::assigned_by;
-use defined::value::item_value;
 use defined::value::next_item;
 use defined::value::returned_by;
 use names::key::name_key;
-use records::contents::expr_word;
 use records::owners::expr_items;
 use records::owners::is_dead;
 use records::owners::value_items;
@@ -23,8 +22,8 @@ ghost use Rattle.definition.specs.Owners.{firstItem};
 ghost use Rattle.defined.specs.Defined.{listOf};
 ghost use Rattle.values.specs.Keys.{placesOf};
 ghost use Rattle.values.specs.Tables.{at};
-ghost use Rattle.names.specs.Spots.{spot, known, state, useSpot};
-ghost use Rattle.naming.specs.Walk.{walked, fieldSpots, itemSpot, stmtSpots};
+ghost use Rattle.names.specs.Spots.{spot, known, state};
+ghost use Rattle.naming.specs.Walk.{walked, fieldSpots, stmtSpots};
 ghost use Rattle.naming.specs.Given.{Laid, Went, standing};
 
 // A value that a statement defines by its fields, if there is one; place p names it.
@@ -46,69 +45,6 @@ fn name_defined(
         Defined::Nothing => next,
         Defined::One(v) => name_key(names, seen, numbers, roots, away, p, v, next),
     }
-}
-
-// The list items from a up to b, which are values; all items stand from place `from` on.
-fn name_items(
-    names: &mut [u32],
-    seen: &mut [u32],
-    f: &[u8],
-    numbers: &[u32],
-    roots: &[u32],
-    away: &[u32],
-    from: usize,
-    a: u32,
-    b: u32,
-    next: u32,
-) -> u32
-    requires { ⌜ from ≡ placesOf (now f) .items ⌝ }
-    ensures { λ r. ⌜ state (now (names .exit)) (now (seen .exit)) r
-        ≡ walked (known (now (numbers .entry)) (now (roots .entry)) (now (away .entry))) (state (now (names .entry)) (now (seen .entry)) next)
-        (map (itemSpot (now (f .entry))) (range a (b - a))) ⌝ }
-{
-    let mut next = next;
-    let mut k = a;
-    while k < b {
-        let p = from + k as usize;
-        let v = item_value(f, k);
-        next = name_key(names, seen, numbers, roots, away, p, v, next);
-        k += 1;
-    }
-    next
-}
-
-// The nodes that `order` has from a up to b; all nodes stand from place `from` on.
-fn name_uses(
-    names: &mut [u32],
-    seen: &mut [u32],
-    f: &[u8],
-    numbers: &[u32],
-    roots: &[u32],
-    away: &[u32],
-    order: &[u32],
-    from: usize,
-    a: u32,
-    b: u32,
-    next: u32,
-) -> u32
-    requires { ⌜ from ≡ placesOf (now f) .exprs ⌝ }
-    ensures { λ r. ⌜ state (now (names .exit)) (now (seen .exit)) r
-        ≡ walked (known (now (numbers .entry)) (now (roots .entry)) (now (away .entry))) (state (now (names .entry)) (now (seen .entry)) next)
-        (map (λ k. useSpot (now (f .entry)) (at (now (order .entry)) k)) (range a (b - a))) ⌝ }
-{
-    let mut next = next;
-    let mut k = a;
-    while k < b {
-        let n = at_u32(order, k as usize);
-        let p = from + n as usize;
-        let v = Value {
-            reg: expr_word(f, n, 1),
-            ver: expr_word(f, n, 2),
-        };
-        next = name_key(names, seen, numbers, roots, away, p, v, next);
-        k += 1;
-    }
-    next
 }
 
 // What statement i defines by its fields; those of all statements stand from place `from` on.
@@ -163,11 +99,36 @@ fn name_stmt(
     let next = name_fields(names, seen, f, numbers, roots, away, at.stmts, i, next);
     let a = first + expr_items(f, i);
     let b = a + value_items(f, i);
-    let next = name_items(names, seen, f, numbers, roots, away, at.items, a, b, next);
-    let e = at.exprs;
+    let next = name_run(
+        names,
+        seen,
+        f,
+        numbers,
+        roots,
+        away,
+        order,
+        at,
+        Run::Items,
+        a,
+        b,
+        next,
+    );
     let x = at_u32(starts, i as usize);
     let y = at_u32(starts, i as usize + 1);
-    name_uses(names, seen, f, numbers, roots, away, order, e, x, y, next)
+    name_run(
+        names,
+        seen,
+        f,
+        numbers,
+        roots,
+        away,
+        order,
+        at,
+        Run::Uses,
+        x,
+        y,
+        next,
+    )
 }
 
 // The next statements, up to b.

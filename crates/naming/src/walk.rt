@@ -43,7 +43,7 @@ fn name_block(
         (blockSpots (now (f .entry)) b) ⌝ }
 {
     let e = w.phi + block_phis(f, b);
-    let v = name_phis(names, seen, f, numbers, roots, away, at, e, w);
+    let v = name_phis(names, seen, f, numbers, roots, away, order, at, e, w);
     let e = v.stmt + block_stmts(f, b);
     name_stmts(
         names,
