@@ -7,7 +7,9 @@ entry-reads-requires : tie.Need-entry-reads-requires
 entry-reads-requires c κs = (for-names _ _ _ _ _ _ (c .before .before .before .before .before .before .before .before .before .before .pre .0), (c .before .before .before .before .before .before .before .before .before .before .pre .0 .flat, c .before .before .before .before .before .before .before .before .before .before .pre .1 .no-entry))
 
 naming-requires : tie.Need-naming-requires
-naming-requires c κs = (for-names _ _ _ _ _ _ (c .before .before .before .before .before .before .before .before .before .before .before .before .before .before .before .before .pre .0), (c .before .before .before .before .before .before .before .before .before .before .before .before .before .before .before .before .pre .0 .flat, (c .before .before .before .before .before .before .before .before .before .before .before .before .before .before .before .before .pre .0 .few, (c .before .before .before .before .before .before .before .before .before .before .before .before .before .before .before .before .pre .1 .no-names, c .before .before .before .before .before .before .before .before .before .before .before .before .before .before .before .before .pre .1 .no-seen))))
+naming-requires c κs =
+    let pre = c .before .before .before .before .before .before .before .before .before .before .before .before .before .before .before .before .pre in
+    (for-names _ _ _ _ _ _ (pre .0), (pre .0 .flat, (pre .0 .few, (pre .1 .no-names, pre .1 .no-seen))))
 
 same-length : tie.Need-same-length
 same-length c = search needs

@@ -10,13 +10,19 @@ loads-requires : tie.Need-loads-requires
 loads-requires c κs = (c .before .before .before .before .before .before .before .before .before .before .before .before .before .before .before .before .pre .no-loads, c .before .before .before .before .before .before .before .before .before .before .before .before .before .before .before .before .pre .exprs)
 
 live-reads-requires : tie.Need-live-reads-requires
-live-reads-requires c κs = (by-numbers _ _ _ _ _ _ _ _ (c .before .before .before .before .before .before .before .before .before .before .before .before .before .before .before .before .before .before .before .before .before .before .pre) _ (c .before .before .before .before .before .before .before .before .before .before .before .before .before .before .before .before .before .before .before .before .before .before .pre .no-live), runs _ _ _ _ _ _ _ _ (c .before .before .before .before .before .before .before .before .before .before .before .before .before .before .before .before .before .before .before .before .before .before .pre) _ _ (c .before .before .before .before .before .before .before .before .before .before .before .order .ensures) (c .before .before .before .before .before .before .before .before .before .before .before .order .kept .0) (c .before .before .before .before .before .before .before .before .before .before .before .order .kept .1 .0))
+live-reads-requires c κs =
+    let pre = c .before .before .before .before .before .before .before .before .before .before .before .before .before .before .before .before .before .before .before .before .before .before .pre in
+    let order = c .before .before .before .before .before .before .before .before .before .before .before .order in
+    (by-numbers _ _ _ _ _ _ _ _ (pre) _ (pre .no-live), runs _ _ _ _ _ _ _ _ (pre) _ _ (order .ensures) (order .kept .0) (order .kept .1 .0))
 
 phi-reads-requires : tie.Need-phi-reads-requires
 phi-reads-requires c κs = by-numbers _ _ _ _ _ _ _ _ (c .before .before .before .before .before .before .before .before .before .before .before .before .before .before .before .before .before .before .before .before .before .before .before .before .before .before .pre) _ (c .before .before .before .before .before .before .before .before .before .before .before .before .before .before .before .before .before .before .before .before .before .before .before .before .before .before .pre .no-phi)
 
 readers-requires : tie.Need-readers-requires
-readers-requires c κs = (by-numbers _ _ _ _ _ _ _ _ (c .before .before .before .before .before .before .before .before .before .before .before .before .before .before .before .before .before .before .before .before .before .before .before .before .before .before .before .before .before .before .before .before .pre) _ (c .before .before .before .before .before .before .before .before .before .before .before .before .before .before .before .before .before .before .before .before .before .before .before .before .before .before .before .before .before .before .before .before .pre .no-readers), runs _ _ _ _ _ _ _ _ (c .before .before .before .before .before .before .before .before .before .before .before .before .before .before .before .before .before .before .before .before .before .before .before .before .before .before .before .before .before .before .before .before .pre) _ _ (c .before .before .before .before .before .before .before .before .before .before .before .before .before .before .before .before .before .before .before .before .before .order .ensures) (c .before .before .before .before .before .before .before .before .before .before .before .before .before .before .before .before .before .before .before .before .before .order .kept .0) (c .before .before .before .before .before .before .before .before .before .before .before .before .before .before .before .before .before .before .before .before .before .order .kept .1 .0))
+readers-requires c κs =
+    let pre = c .before .before .before .before .before .before .before .before .before .before .before .before .before .before .before .before .before .before .before .before .before .before .before .before .before .before .before .before .before .before .before .before .pre in
+    let order = c .before .before .before .before .before .before .before .before .before .before .before .before .before .before .before .before .before .before .before .before .before .order in
+    (by-numbers _ _ _ _ _ _ _ _ (pre) _ (pre .no-readers), runs _ _ _ _ _ _ _ _ (pre) _ _ (order .ensures) (order .kept .0) (order .kept .1 .0))
 
 same-length : tie.Need-same-length
 same-length c = search needs

@@ -26,7 +26,12 @@ same-length-2 : tie.Need-same-length-2
 same-length-2 c = search needs
 
 returns : tie.Need-returns
-returns c = names-all (c .before .before .before .before .before .before .before .before .before .before .before .before .before .before .before .before .before .before .before .before .before .before .before .before .before .args .f .now) (c .before .before .before .before .before .before .before .before .before .before .before .before .before .before .before .before .before .before .before .before .before .before .shared-slice-known .given) (c .before .before .before .before .before .before .before .before .before .before .before .before .before .before .before .before .before .before .before .before .before .before .before .before .before .args .numbers .now) _ _ _ (c .before .before .before .before .before .before .before .before .before .before .before .before .before .before .before .before .before .before .before .before .before .before .before .before .before .pre .0) (c .before .before .before .before .before .before .before .before .before .before .before .before .before .before .before .before .before .before .before .before .before .before .before .before .before .pre .1 .1 .0) _ (c .before .before .before .before .before .before .before .before .before .before .before .before .before .before .before .params .ensures) _ _ _ _ _ _ _ (c .before .before .before .before .before .before .before .before .before .before .before .before .before .before .before .before .before .before .before .before .before .before .before .before .before .pre .1 .1 .1) (c .before .before .before .before .before .before .before .before .before .before .before .before .before .see-params .ensures) (c .before .before .before .before .before .before .before .before .name-blocks .ensures) (c .before .before .clear-words .ensures) (c .before .before .before .before .before .before .before .before .name-blocks .kept .1 .0 ∙ c .before .before .before .before .before .before .before .before .before .before .before .before .before .see-params .kept .0 ∙ ap length (c .before .before .before .before .before .before .before .before .before .before .before .before .before .before .before .before .before .before .before .before .before .before .before .before .before .pre .1 .1 .1 .1) ∙ length-replicate _ _)
+returns c =
+    let given = c .before .before .before .before .before .before .before .before .before .before .before .before .before .before .before .before .before .before .before .before .before .before .before .before .before .args in
+    let pre = c .before .before .before .before .before .before .before .before .before .before .before .before .before .before .before .before .before .before .before .before .before .before .before .before .before .pre in
+    let see-params = c .before .before .before .before .before .before .before .before .before .before .before .before .before .see-params in
+    let name-blocks = c .before .before .before .before .before .before .before .before .name-blocks in
+    names-all (given .f .now) (c .before .before .before .before .before .before .before .before .before .before .before .before .before .before .before .before .before .before .before .before .before .before .shared-slice-known .given) (given .numbers .now) _ _ _ (pre .0) (pre .1 .1 .0) _ (c .before .before .before .before .before .before .before .before .before .before .before .before .before .before .before .params .ensures) _ _ _ _ _ _ _ (pre .1 .1 .1) (see-params .ensures) (name-blocks .ensures) (c .before .before .clear-words .ensures) (name-blocks .kept .1 .0 ∙ see-params .kept .0 ∙ ap length (pre .1 .1 .1 .1) ∙ length-replicate _ _)
 
 pub naming-spec : {M : Type 1} → statement M
 naming-spec =

@@ -14,7 +14,9 @@ put-sign-requires : tie.Need-put-sign-requires
 put-sign-requires c κs = search needs
 
 put-side-requires-2 : tie.Need-put-side-requires-2
-put-side-requires-2 c κs = (c .before .before .before .before .before .before .before .before .before .before .before .before .before .before .before .before .before .before .before .before .before .before .before .before .before .before .before .before .before .before .pre .0, c .before .before .before .before .before .before .before .before .before .before .before .before .before .before .before .before .before .before .before .before .before .before .before .before .before .before .before .before .before .before .pre .1)
+put-side-requires-2 c κs =
+    let pre = c .before .before .before .before .before .before .before .before .before .before .before .before .before .before .before .before .before .before .before .before .before .before .before .before .before .before .before .before .before .before .pre in
+    (pre .0, pre .1)
 
 same-length : tie.Need-same-length
 same-length c = c .before .before .before .before .put-side2 .kept .0 ∙ c .before .before .before .before .before .before .before .before .before .before .before .put-sign .kept .0 ∙ c .before .before .before .before .before .before .before .before .before .before .before .before .before .before .before .before .before .before .put-side .kept .0 ∙ c .before .before .before .before .before .before .before .before .before .before .before .before .before .before .before .before .before .before .before .before .before .before .before .before .before .put-unsigned .kept .0

@@ -12,28 +12,36 @@ enum-told c = search needs
 
 assign-requires : tie.Need-assign-requires
 unfolding kindNumber
-assign-requires c κs = (c .before .before .before .before .before .before .before .before .before .before .before .before .before .before .before .before .before .before .pre .0 .told, (kind-is _ (c .before .before .before .before .before .before .before .before .before .before .before .before .before .before .before .before .before .before .pre .0 .shape) _ (here-at _ (c .before .before .before .before .before .before .before .before .before .before .before .before .before .before .before .before .before .before .pre .0 .told .ground .counts) _ _ _ _ _ (c .before .before .before .before .before .before .before .before .before .before .before .before .before .before .before .before .before .before .pre .1 .0)) _ _ (c .before .before .before .before .before .stmt-at .ensures) _ (c .before .before .before .enum-told .given .1), (inside _ (c .before .before .before .before .before .before .before .before .before .before .before .before .before .before .before .before .before .before .pre .0 .told .ground .counts) _ _ _ _ _ (c .before .before .before .before .before .before .before .before .before .before .before .before .before .before .before .before .before .before .pre .1 .0), c .before .before .before .before .before .before .before .before .before .before .before .before .before .before .before .before .before .before .pre .0 .classed)))
+assign-requires c κs =
+    let pre = c .before .before .before .before .before .before .before .before .before .before .before .before .before .before .before .before .before .before .pre in
+    (pre .0 .told, (kind-is _ (pre .0 .shape) _ (here-at _ (pre .0 .told .ground .counts) _ _ _ _ _ (pre .1 .0)) _ _ (c .before .before .before .before .before .stmt-at .ensures) _ (c .before .before .before .enum-told .given .1), (inside _ (pre .0 .told .ground .counts) _ _ _ _ _ (pre .1 .0), pre .0 .classed)))
 
 enum-told-2 : tie.Need-enum-told-2
 enum-told-2 c = search needs
 
 store-requires : tie.Need-store-requires
 unfolding kindNumber
-store-requires c κs = (c .before .before .before .before .before .before .before .before .before .before .before .before .before .before .before .before .before .before .pre .0 .told, (kind-is _ (c .before .before .before .before .before .before .before .before .before .before .before .before .before .before .before .before .before .before .pre .0 .shape) _ (here-at _ (c .before .before .before .before .before .before .before .before .before .before .before .before .before .before .before .before .before .before .pre .0 .told .ground .counts) _ _ _ _ _ (c .before .before .before .before .before .before .before .before .before .before .before .before .before .before .before .before .before .before .pre .1 .0)) _ _ (c .before .before .before .before .before .stmt-at .ensures) _ (c .before .before .before .enum-told2 .given .1), inside _ (c .before .before .before .before .before .before .before .before .before .before .before .before .before .before .before .before .before .before .pre .0 .told .ground .counts) _ _ _ _ _ (c .before .before .before .before .before .before .before .before .before .before .before .before .before .before .before .before .before .before .pre .1 .0)))
+store-requires c κs =
+    let pre = c .before .before .before .before .before .before .before .before .before .before .before .before .before .before .before .before .before .before .pre in
+    (pre .0 .told, (kind-is _ (pre .0 .shape) _ (here-at _ (pre .0 .told .ground .counts) _ _ _ _ _ (pre .1 .0)) _ _ (c .before .before .before .before .before .stmt-at .ensures) _ (c .before .before .before .enum-told2 .given .1), inside _ (pre .0 .told .ground .counts) _ _ _ _ _ (pre .1 .0)))
 
 enum-told-3 : tie.Need-enum-told-3
 enum-told-3 c = search needs
 
 call-requires : tie.Need-call-requires
 unfolding kindNumber
-call-requires c κs = (c .before .before .before .before .before .before .before .before .before .before .before .before .before .before .before .before .before .before .pre .0 .told, (c .before .before .before .before .before .before .before .before .before .before .before .before .before .before .before .before .before .before .pre .0 .times, (c .before .before .before .before .before .before .before .before .before .before .before .before .before .before .before .before .before .before .pre .0 .flows, call-at _ (c .before .before .before .before .before .before .before .before .before .before .before .before .before .before .before .before .before .before .pre .0 .told .ground .counts) _ _ _ _ _ (c .before .before .before .before .before .before .before .before .before .before .before .before .before .before .before .before .before .before .pre .1 .0) (kind-is _ (c .before .before .before .before .before .before .before .before .before .before .before .before .before .before .before .before .before .before .pre .0 .shape) _ (here-at _ (c .before .before .before .before .before .before .before .before .before .before .before .before .before .before .before .before .before .before .pre .0 .told .ground .counts) _ _ _ _ _ (c .before .before .before .before .before .before .before .before .before .before .before .before .before .before .before .before .before .before .pre .1 .0)) _ _ (c .before .before .before .before .before .stmt-at .ensures) _ (c .before .before .before .enum-told3 .given .1)))))
+call-requires c κs =
+    let pre = c .before .before .before .before .before .before .before .before .before .before .before .before .before .before .before .before .before .before .pre in
+    (pre .0 .told, (pre .0 .times, (pre .0 .flows, call-at _ (pre .0 .told .ground .counts) _ _ _ _ _ (pre .1 .0) (kind-is _ (pre .0 .shape) _ (here-at _ (pre .0 .told .ground .counts) _ _ _ _ _ (pre .1 .0)) _ _ (c .before .before .before .before .before .stmt-at .ensures) _ (c .before .before .before .enum-told3 .given .1)))))
 
 enum-told-4 : tie.Need-enum-told-4
 enum-told-4 c = search needs
 
 branch-requires : tie.Need-branch-requires
 unfolding kindNumber
-branch-requires c κs = (c .before .before .before .before .before .before .before .before .before .before .before .before .before .before .before .before .before .before .pre .0 .told, (branch-at _ (c .before .before .before .before .before .before .before .before .before .before .before .before .before .before .before .before .before .before .pre .0 .told .ground .counts) _ _ _ _ _ (c .before .before .before .before .before .before .before .before .before .before .before .before .before .before .before .before .before .before .pre .1 .0) (kind-is _ (c .before .before .before .before .before .before .before .before .before .before .before .before .before .before .before .before .before .before .pre .0 .shape) _ (here-at _ (c .before .before .before .before .before .before .before .before .before .before .before .before .before .before .before .before .before .before .pre .0 .told .ground .counts) _ _ _ _ _ (c .before .before .before .before .before .before .before .before .before .before .before .before .before .before .before .before .before .before .pre .1 .0)) _ _ (c .before .before .before .before .before .stmt-at .ensures) _ (c .before .before .before .enum-told4 .given .1)), c .before .before .before .before .before .before .before .before .before .before .before .before .before .before .before .before .before .before .pre .1 .1))
+branch-requires c κs =
+    let pre = c .before .before .before .before .before .before .before .before .before .before .before .before .before .before .before .before .before .before .pre in
+    (pre .0 .told, (branch-at _ (pre .0 .told .ground .counts) _ _ _ _ _ (pre .1 .0) (kind-is _ (pre .0 .shape) _ (here-at _ (pre .0 .told .ground .counts) _ _ _ _ _ (pre .1 .0)) _ _ (c .before .before .before .before .before .stmt-at .ensures) _ (c .before .before .before .enum-told4 .given .1)), pre .1 .1))
 
 enum-told-5 : tie.Need-enum-told-5
 enum-told-5 c = search needs
@@ -43,14 +51,18 @@ enum-told-6 c = search needs
 
 returns-requires : tie.Need-returns-requires
 unfolding kindNumber
-returns-requires c κs = (c .before .before .before .before .before .before .before .before .before .before .before .before .before .before .before .before .before .before .pre .0 .told, (kind-is _ (c .before .before .before .before .before .before .before .before .before .before .before .before .before .before .before .before .before .before .pre .0 .shape) _ (here-at _ (c .before .before .before .before .before .before .before .before .before .before .before .before .before .before .before .before .before .before .pre .0 .told .ground .counts) _ _ _ _ _ (c .before .before .before .before .before .before .before .before .before .before .before .before .before .before .before .before .before .before .pre .1 .0)) _ _ (c .before .before .before .before .before .stmt-at .ensures) _ (c .before .before .before .enum-told6 .given .1), inside _ (c .before .before .before .before .before .before .before .before .before .before .before .before .before .before .before .before .before .before .pre .0 .told .ground .counts) _ _ _ _ _ (c .before .before .before .before .before .before .before .before .before .before .before .before .before .before .before .before .before .before .pre .1 .0)))
+returns-requires c κs =
+    let pre = c .before .before .before .before .before .before .before .before .before .before .before .before .before .before .before .before .before .before .pre in
+    (pre .0 .told, (kind-is _ (pre .0 .shape) _ (here-at _ (pre .0 .told .ground .counts) _ _ _ _ _ (pre .1 .0)) _ _ (c .before .before .before .before .before .stmt-at .ensures) _ (c .before .before .before .enum-told6 .given .1), inside _ (pre .0 .told .ground .counts) _ _ _ _ _ (pre .1 .0)))
 
 enum-told-7 : tie.Need-enum-told-7
 enum-told-7 c = search needs
 
 other-requires : tie.Need-other-requires
 unfolding kindNumber
-other-requires c κs = (c .before .before .before .before .before .before .before .before .before .before .before .before .before .before .before .before .before .before .pre .0 .told, (kind-is _ (c .before .before .before .before .before .before .before .before .before .before .before .before .before .before .before .before .before .before .pre .0 .shape) _ (here-at _ (c .before .before .before .before .before .before .before .before .before .before .before .before .before .before .before .before .before .before .pre .0 .told .ground .counts) _ _ _ _ _ (c .before .before .before .before .before .before .before .before .before .before .before .before .before .before .before .before .before .before .pre .1 .0)) _ _ (c .before .before .before .before .before .stmt-at .ensures) _ (c .before .before .before .enum-told7 .given .1), (inside _ (c .before .before .before .before .before .before .before .before .before .before .before .before .before .before .before .before .before .before .pre .0 .told .ground .counts) _ _ _ _ _ (c .before .before .before .before .before .before .before .before .before .before .before .before .before .before .before .before .before .before .pre .1 .0), ((c .before .before .before .before .before .before .before .before .before .before .before .before .before .before .before .before .before .before .pre .0 .times, c .before .before .before .before .before .before .before .before .before .before .before .before .before .before .before .before .before .before .pre .0 .flows), c .before .before .before .before .before .before .before .before .before .before .before .before .before .before .before .before .before .before .pre .1 .0 .first))))
+other-requires c κs =
+    let pre = c .before .before .before .before .before .before .before .before .before .before .before .before .before .before .before .before .before .before .pre in
+    (pre .0 .told, (kind-is _ (pre .0 .shape) _ (here-at _ (pre .0 .told .ground .counts) _ _ _ _ _ (pre .1 .0)) _ _ (c .before .before .before .before .before .stmt-at .ensures) _ (c .before .before .before .enum-told7 .given .1), (inside _ (pre .0 .told .ground .counts) _ _ _ _ _ (pre .1 .0), ((pre .0 .times, pre .0 .flows), pre .1 .0 .first))))
 
 same-length : tie.Need-same-length
 same-length c = search needs
@@ -101,7 +113,9 @@ returns-4 : tie.Need-returns-4
 returns-4 c = λ E set s n. ends-there E _ _ _ _ _ _ _ _ _ (c .before .before .before .before .before .before .before .before .before .before .before .before .before .before .before .before .before .before .before .before .before .before .before .before .before .pre .1 .0 .ends) (c .before .before .before .before .before .before .branch .ensures E _ set s n)
 
 returns-5 : tie.Need-returns-5
-returns-5 c = λ E set s n. flags-none _ (c .before .before .before .before .before .before .before .before .before .before .before .shared-slice-known .given) (c .before .before .before .before .before .before .before .before .before .before .before .before .before .before .before .pre .0 .told .ground .counts) _ (here-at _ (c .before .before .before .before .before .before .before .before .before .before .before .before .before .before .before .pre .0 .told .ground .counts) _ _ _ _ _ (c .before .before .before .before .before .before .before .before .before .before .before .before .before .before .before .pre .1 .0)) _ (c .before .before .before .before .before .before .before .before .before .before .before .before .before .before .before .pre .1 .0 .first) _ (c .before .before .stmt-at .ensures) _ (c .enum-told5 .given .1) E _ _ set _ _
+returns-5 c =
+    let pre = c .before .before .before .before .before .before .before .before .before .before .before .before .before .before .before .pre in
+    λ E set s n. flags-none _ (c .before .before .before .before .before .before .before .before .before .before .before .shared-slice-known .given) (pre .0 .told .ground .counts) _ (here-at _ (pre .0 .told .ground .counts) _ _ _ _ _ (pre .1 .0)) _ (pre .1 .0 .first) _ (c .before .before .stmt-at .ensures) _ (c .enum-told5 .given .1) E _ _ set _ _
 
 same-length-13 : tie.Need-same-length-13
 same-length-13 c = search needs

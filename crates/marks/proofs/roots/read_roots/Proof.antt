@@ -49,7 +49,10 @@ same-length : tie.Need-same-length Inv-loop μ-loop
 same-length c = c .before .loop .inv .3
 
 returns : tie.Need-returns Inv-loop μ-loop
-returns c = read-done (c .before .before .before .before .before .before .before .before .before .before .before .args .f .now) (c .before .before .before .before .before .before .before .before .before .shared-slice-known .given) _ (c .before .before .before .before .before .before .before .before .before .before .before .args .numbers .now) (c .before .before .before .before .before .before .before .before .before .before .before .args .offsets .now) (c .before .before .before .before .before .before .before .before .before .before .before .args .roots .now) _ _ (c .before .before .before .before .before .before .before .before .before .before .before .pre .0) (c .before .before .before .before .before .before .before .before .before .before .before .pre .1 .1) (λ E k s e. visits-end _ (λ (j : ℕ). slots (c .before .before .before .before .before .before .before .before .before .before .before .args .numbers .now) (placesOf (c .before .before .before .before .before .before .before .before .before .before .before .args .f .now) .exprs) (reading E (c .before .before .before .before .before .before .before .before .before .before .before .args .f .now) k j)) _ _ _ _ (c .loop-test .left) (c .before .loop .inv .0 E k s e))
+returns c =
+    let given = c .before .before .before .before .before .before .before .before .before .before .before .args in
+    let pre = c .before .before .before .before .before .before .before .before .before .before .before .pre in
+    read-done (given .f .now) (c .before .before .before .before .before .before .before .before .before .shared-slice-known .given) _ (given .numbers .now) (given .offsets .now) (given .roots .now) _ _ (pre .0) (pre .1 .1) (λ E k s e. visits-end _ (λ (j : ℕ). slots (given .numbers .now) (placesOf (given .f .now) .exprs) (reading E (given .f .now) k j)) _ _ _ _ (c .loop-test .left) (c .before .loop .inv .0 E k s e))
 
 pub read-roots-spec : {M : Type 1} → statement M
 read-roots-spec =

@@ -32,7 +32,10 @@ same-length : tie.Need-same-length
 same-length c = search needs
 
 returns-2 : tie.Need-returns-2
-returns-2 c = tick-some _ (c .before .before .before .before .before .before .before .before .before .before .before .before .before .args .f .now) _ (c .before .before .before .before .before .before .before .before .before .before .before .before .before .args .i) _ (c .before .before .before .before .before .before .before .passed-over .ensures) _ (c .before .before .before .before .before .before .if1 .left) (c .before .before .mark-run .ensures ∙ tick-run _ (c .before .before .before .before .before .before .before .before .before .before .before .before .before .args .f .now) (c .before .before .before .before .before .before .before .before .before .before .before .before .before .args .order .now) _ _ _ _ (c .before .before .before .before .before .before .before .before .before .before .before .before .before .pre .0 .0) ∙ ap (ticked _ _) (uses-run (c .before .before .before .before .before .before .before .before .before .before .before .before .before .args .f .now) (c .before .before .before .before .before .before .before .before .before .before .before .before .before .args .order .now) (c .before .before .before .before .before .before .before .before .before .before .before .before .before .args .starts .now) _ _ (c .before .before .before .before .before .before .before .before .before .before .before .before .before .pre .1) (c .before .before .before .before .before .before .before .before .before .before .before .before .before .args .i) _ _ (c .before .before .before .before .before .before .before .before .before .before .before .before .before .pre .0 .1) (c .before .before .before .before .before .at-u32 .ensures) (c .before .before .before .before .at-u322 .ensures)))
+returns-2 c =
+    let given = c .before .before .before .before .before .before .before .before .before .before .before .before .before .args in
+    let pre = c .before .before .before .before .before .before .before .before .before .before .before .before .before .pre in
+    tick-some _ (given .f .now) _ (given .i) _ (c .before .before .before .before .before .before .before .passed-over .ensures) _ (c .before .before .before .before .before .before .if1 .left) (c .before .before .mark-run .ensures ∙ tick-run _ (given .f .now) (given .order .now) _ _ _ _ (pre .0 .0) ∙ ap (ticked _ _) (uses-run (given .f .now) (given .order .now) (given .starts .now) _ _ (pre .1) (given .i) _ _ (pre .0 .1) (c .before .before .before .before .before .at-u32 .ensures) (c .before .before .before .before .at-u322 .ensures)))
 
 pub tick-stmt-spec : {M : Type 1} → statement M
 tick-stmt-spec =

@@ -29,7 +29,11 @@ same-length-2 : tie.Need-same-length-2
 same-length-2 c = search needs
 
 returns : tie.Need-returns
-returns c = fields-two _ _ (c .before .before .before .before .before .before .before .before .before .before .before .before .before .before .before .before .before .before .before .before .before .before .args .i) _ (c .before .before .before .before .before .before .before .before .before .before .before .before .before .before .before .before .before .before .before .before .before .before .args .from + c .before .before .before .before .before .before .before .before .before .before .before .before .before .before .before .before .before .before .before .before .before .before .args .i) (c .before .before .before .before .before .before .before .before .before .before .before .before .before .before .before .before .before .before .before .before .before .before .args .from) (c .before .before .before .before .before .before .before .before .before .before .before .before .before .before .before .assigned-by .result) (c .before .before .before .before .before .before .before .returned-by .result) _ _ refl (c .before .before .before .before .before .before .before .before .before .before .before .before .before .before .before .before .before .before .before .before .before .before .pre) (c .before .before .before .before .before .before .before .before .before .before .before .before .before .before .before .assigned-by .ensures) (c .before .before .before .before .before .before .before .returned-by .ensures) (c .before .before .before .before .before .before .before .before .before .before .before .before .name-defined .ensures) (c .before .before .before .before .name-defined2 .ensures)
+returns c =
+    let given = c .before .before .before .before .before .before .before .before .before .before .before .before .before .before .before .before .before .before .before .before .before .before .args in
+    let assigned-by = c .before .before .before .before .before .before .before .before .before .before .before .before .before .before .before .assigned-by in
+    let returned-by = c .before .before .before .before .before .before .before .returned-by in
+    fields-two _ _ (given .i) _ (given .from + given .i) (given .from) (assigned-by .result) (returned-by .result) _ _ refl (c .before .before .before .before .before .before .before .before .before .before .before .before .before .before .before .before .before .before .before .before .before .before .pre) (assigned-by .ensures) (returned-by .ensures) (c .before .before .before .before .before .before .before .before .before .before .before .before .name-defined .ensures) (c .before .before .before .before .name-defined2 .ensures)
 
 pub name-fields-spec : {M : Type 1} → statement M
 name-fields-spec =

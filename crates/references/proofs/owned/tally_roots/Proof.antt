@@ -38,8 +38,12 @@ loop-less : tie.Need-loop-less Inv-loop μ-loop
 loop-less c = omega arith
 
 loop-again : tie.Need-loop-again Inv-loop μ-loop
-loop-again c = let g = rootAt (c .before .before .before .before .before .before .before .before .before .before .args .f .now) (c .before .before .before .before .before .before .before .before .before .before .args .i) (c .before .before .before .before .before .before .before .before .before .before .args .first) in
-    (c .before .before .before .before .before .before .loop .inv .0 ∙ names-turn g _ _ _ _ _ (c .before .before .before .before .before .loop-test .taken) (c .before .before .before .root-at .ensures) (c .before .before .mention .ensures), c .before .before .before .before .before .before .loop .inv .1, mention-keeps _ _ (c .before .before .before .before .before .before .before .before .before .before .args .table .now) _ (c .before .before .mention .ensures) (c .before .before .before .before .before .before .loop .inv .2))
+loop-again c =
+    let given = c .before .before .before .before .before .before .before .before .before .before .args in
+    let at-loop = c .before .before .before .before .before .before .loop in
+    let mention = c .before .before .mention in
+    let g = rootAt (given .f .now) (given .i) (given .first) in
+    (at-loop .inv .0 ∙ names-turn g _ _ _ _ _ (c .before .before .before .before .before .loop-test .taken) (c .before .before .before .root-at .ensures) (mention .ensures), at-loop .inv .1, mention-keeps _ _ (given .table .now) _ (mention .ensures) (at-loop .inv .2))
 
 same-length : tie.Need-same-length Inv-loop μ-loop
 same-length c = c .before .loop .inv .2

@@ -16,7 +16,9 @@ same-length-2 : tie.Need-same-length-2
 same-length-2 c = search needs
 
 returns : tie.Need-returns
-returns c = marked _ _ (c .before .before .before .before .before .before .before .before .before .before .before .before .before .before .before .before .pre .0) _ _ _ _ _ _ (c .before .before .before .before .before .before .before .before .before .before .before .before .before .before .before .before .pre .1 .0) (c .before .before .before .before .before .before .before .before .before .before .before .before .before .before .before .before .pre .1 .1 .0) (c .before .before .before .before .before .before .before .before .before .before .before .before .before .before .before .before .pre .1 .1 .1 .1) (c .before .before .before .before .before .before .read-roots .ensures) (c .before .before .labels .ensures)
+returns c =
+    let pre = c .before .before .before .before .before .before .before .before .before .before .before .before .before .before .before .before .pre in
+    marked _ _ (pre .0) _ _ _ _ _ _ (pre .1 .0) (pre .1 .1 .0) (pre .1 .1 .1 .1) (c .before .before .before .before .before .before .read-roots .ensures) (c .before .before .labels .ensures)
 
 pub mark-spec : {M : Type 1} → statement M
 mark-spec =
