@@ -1,3 +1,4 @@
+-- What is really read at entry is found first, from zeros; with it, the roots and the places, the codes that naming leaves are the names.
 use Rattle.analyses.proofs.Gathered.{for-names, all-named}
 use borrow.Author.Needs.{needs}
 use Rattle.analyses.proofs.name_variables.Statement.{statement}

@@ -1,3 +1,4 @@
+-- The keys fill a table of the same length, so the chains still fit; the numbers made from them leave both tables of the chains as zeros.
 use Rattle.analyses.proofs.Gathered.{chains-fit, all-valued}
 use borrow.Author.Needs.{needs}
 use Rattle.analyses.proofs.number_values.Statement.{statement}

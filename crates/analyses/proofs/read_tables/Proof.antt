@@ -1,3 +1,4 @@
+-- Loads and phi reads need only the file and its numbers; the order is made first, and the live reads and last readers go by it.
 use Rattle.analyses.proofs.Gathered.{ready, by-numbers, runs, all-read}
 use borrow.Author.Needs.{needs}
 use Rattle.analyses.proofs.read_tables.Statement.{statement}

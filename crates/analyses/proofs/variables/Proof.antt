@@ -1,3 +1,4 @@
+-- The classes come from keys and numbers, what is written in place from the reads; the roots' table is as long as the numbers, as is asked.
 use Rattle.analyses.proofs.Gathered.{for-classes, for-inline, all-placed}
 use borrow.Author.Needs.{needs}
 use Rattle.analyses.proofs.variables.Statement.{statement}

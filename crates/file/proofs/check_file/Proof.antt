@@ -1,3 +1,4 @@
+-- Each return is the first check that refuses, all before it having passed; the scratch was cleared, and a check that uses it leaves zeros.
 use mathlib.Core.Path.{_≡_}
 use mathlib.Core.Bool.{false}
 use native.Mathlib.Omega.{arith}

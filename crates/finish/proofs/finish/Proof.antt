@@ -1,3 +1,4 @@
+-- The lines of the first i rows are written, one more at each turn, each row headed as the caller promises; at the end i is n.
 use borrow.Author.Needs.{needs}
 use native.Mathlib.Omega.{arith}
 use mathlib.Core.Path.{_≡_, refl, _∙_}

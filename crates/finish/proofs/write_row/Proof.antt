@@ -1,3 +1,4 @@
+-- The kind's tokens of the row's lowered line, ended with the row's indent and address, are the row's line; the promise on its head is passed on.
 use Rattle.finish.proofs.Written.{row-written, row-headed}
 use borrow.Author.Needs.{needs}
 use Rattle.finish.proofs.write_row.Statement.{statement}

@@ -1,3 +1,4 @@
+-- The test holds just where the sum is a number of 64 bits: then the sum is the answer, else the indent as it was.
 use borrow.Author.Needs.{needs}
 use native.Mathlib.Omega.{arith}
 use Rattle.indents.proofs.Laws.{deeper-fits, deeper-stays}

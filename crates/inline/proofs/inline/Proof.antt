@@ -1,3 +1,4 @@
+-- The table has what the blocks before b place, and `first` is where b begins; at the end, from zeros on, it has what all blocks place.
 use borrow.Author.Needs.{needs}
 use native.Mathlib.Omega.{arith}
 use Prim.Native.Nat.{_-_, _≤_}

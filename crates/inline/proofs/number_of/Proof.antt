@@ -1,3 +1,4 @@
+-- Statement i's place is i behind the first place of the statements, and the number that stands there is its value's; the sum fits.
 use native.Mathlib.Omega.{arith}
 use Rattle.inline.proofs.Returns.{places-small, number-is}
 use borrow.Author.Needs.{needs}

@@ -1,3 +1,4 @@
+-- Without a single read, or without it later in the block, nothing is placed; else i + 1, the value's place, is written at its number.
 use Rattle.inline.proofs.Adding.{step-over, step-nowhere, step-placed}
 use borrow.Author.Needs.{needs}
 use Rattle.inline.proofs.place.Statement.{statement}

@@ -1,3 +1,4 @@
+-- The statements from `first` on and before i have placed their values in order, one more at each turn; at the block's end all have.
 use native.Mathlib.Omega.{arith}
 use Prim.Native.Nat.{_-_, _≤_}
 use mathlib.Core.Path.{_≡_, refl, _∙_}

@@ -1,3 +1,4 @@
+-- The tests are the definition's five in its order: the first that fails says no, and behind four of them the count of live reads decides.
 use Rattle.inline.proofs.Returns.{once-dead, once-other, once-rsp, once-phi, once-is}
 use borrow.Author.Needs.{needs}
 use Rattle.inline.proofs.read_once.Statement.{statement}

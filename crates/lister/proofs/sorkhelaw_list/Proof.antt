@@ -1,3 +1,4 @@
+-- Lowering refuses, or its lines and zeros are what structuring asks for; the two answers make the result, and all scratch ends as zeros.
 use Rattle.lister.proofs.Whole.{lowers, lists}
 use Rattle.tables.specs.Tables.{tablesOf}
 use mathlib.Core.Path.{_∙_}

@@ -1,3 +1,4 @@
+-- The blocks from b on are left to write, and the walk stands at the first statement of b; when none is left, all lines are written.
 use borrow.Author.Needs.{needs}
 use native.Mathlib.Omega.{arith}
 use mathlib.Core.Path.{_≡_, refl, sym, _∙_}

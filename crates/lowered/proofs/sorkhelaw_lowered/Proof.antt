@@ -1,3 +1,4 @@
+-- The number is 0 only if all lengths are right and no check refuses: the tables are then what lowering asks. Their fronts, emptied, leave zeros.
 use Rattle.lowered.proofs.Whole.{whole}
 use Rattle.lowered.proofs.Clearing.{reaches}
 use Rattle.lowered.proofs.Handing.{passes}

@@ -1,3 +1,4 @@
+-- The parameters' classes are seen first, then the walk over the blocks names the rest: the definition's codes; `seen`, as long still, is cleared.
 use Rattle.naming.proofs.Small.{args-fit}
 use Rattle.naming.proofs.Named.{names-all}
 use Rattle.definition.specs.Edition.{args}

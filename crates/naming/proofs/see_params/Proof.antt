@@ -1,3 +1,4 @@
+-- The first i parameters are left to mark in the table so far, and with them it becomes the one asked for; i falls to 0, where none is left.
 use Rattle.naming.proofs.Params.{seen-turn, seen-end}
 use Rattle.naming.specs.Walk.{paramsSeen}
 use lib.ListN.{length}

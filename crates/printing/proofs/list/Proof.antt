@@ -1,3 +1,4 @@
+-- Each table is lent whole at the length it is made with, and the call keeps the lengths of the caller's three buffers.
 use borrow.Author.Needs.{needs}
 use Rattle.printing.proofs.list.Statement.{statement}
 use Rattle.printing.proofs.list.Tie as tie

@@ -1,3 +1,4 @@
+-- The loop goes on while five numbers are left behind `at`, so those it reads are there; what is left falls by five.
 use borrow.Author.Needs.{needs}
 use native.Mathlib.Omega.{arith}
 use Prim.Native.Nat.{_-_, _≤_}

@@ -1,3 +1,4 @@
+-- The bytes written are the count, and no room is the last number of 64 bits: the definition's two cases.
 use borrow.Author.Needs.{needs}
 use Rattle.probe.specs.Counted.{countOf}
 use Rattle.probe.proofs.count_of.Statement.{statement}

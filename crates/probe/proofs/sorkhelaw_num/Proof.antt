@@ -1,3 +1,4 @@
+-- The writer leaves the number's text or finds no room; its answer, counted, is the number asked for.
 use borrow.Author.Needs.{needs}
 use Rattle.probe.proofs.Laws.{counted}
 use Rattle.probe.proofs.sorkhelaw_num.Statement.{statement}

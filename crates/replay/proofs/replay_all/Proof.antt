@@ -1,3 +1,4 @@
+-- Nothing is promised but an end: i stays at most the count, so it stays a number of 32 bits, and the files left fall by one.
 use borrow.Author.Needs.{needs}
 use native.Mathlib.Omega.{arith}
 use Prim.Native.Nat.{_-_, _≤_}

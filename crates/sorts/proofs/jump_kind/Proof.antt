@@ -1,3 +1,4 @@
+-- The kind is chosen by whether the line begins with `if`, in code and definition alike.
 use Rattle.sorts.proofs.RowsMade.{jump-if, jump-other}
 use borrow.Author.Needs.{needs}
 use Rattle.sorts.proofs.jump_kind.Statement.{statement}

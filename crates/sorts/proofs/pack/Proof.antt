@@ -1,3 +1,4 @@
+-- Each field is cut to its width, so no sum leaves 64 bits, and the sum is the definition's, term by term.
 use Rattle.sorts.proofs.RowsMade.{packed-is}
 use borrow.Author.Needs.{needs}
 use Rattle.sorts.proofs.pack.Statement.{statement}

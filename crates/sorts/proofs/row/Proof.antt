@@ -1,3 +1,4 @@
+-- By the line's sort: a label's name is 1 + its line, a goto's the number of the label it names, a plain line's is 0; packed, that is its row.
 use Rattle.sorts.proofs.RowsMade.{row-label, row-plain, row-jump}
 use borrow.Author.Needs.{needs}
 use Rattle.sorts.proofs.row.Statement.{statement}

@@ -1,3 +1,4 @@
+-- The table's first i rows are those of the first i lines, the others as they were; at the end i is the lesser of n and the table's length.
 use Rattle.sorts.proofs.RowsMade.{least-both, Filled, filled-start, filled-length, filled-turn, filled-end}
 use Rattle.sorts.specs.Sorted.{rowOf, linesIn}
 use native.Mathlib.Omega.{arith}

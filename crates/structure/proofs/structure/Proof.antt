@@ -1,3 +1,4 @@
+-- The rows code the lowered lines, so what the passes leave is the definition's lines; these fit, so the sheet holds them; both tables are wiped.
 use Rattle.structure.proofs.Whole.{known-heads, finishes}
 use borrow.Author.Needs.{needs}
 use Rattle.structure.proofs.structure.Statement.{statement}

@@ -1,3 +1,4 @@
+-- A refusal is answered over zeros; else structuring is lent the fronts of rows and spans, which come back as zeros, and its answer is given.
 use mathlib.Core.Path.{sym}
 use lib.Seq.{length-take-le}
 use Rattle.structured.proofs.Structuring.{refuses, finishes}

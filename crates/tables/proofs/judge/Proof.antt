@@ -1,3 +1,4 @@
+-- A wrong length is 1, and a check that refuses leaves zeros; else the file is sound and the tables are blank, as the stages ask.
 use Rattle.tables.proofs.Filling.{unlent, stopped, passes, through}
 use Rattle.tables.specs.Tables.{tablesOf}
 use mathlib.Core.Path.{_∙_}

@@ -1,3 +1,4 @@
+-- Emptied tables are their own emptied ones, which judging asks for, and as long as those lent, so what it leaves holds of those too.
 use Rattle.tables.proofs.Filling.{refilled, emptied-first}
 use Rattle.tables.specs.Tables.{tablesOf}
 use mathlib.Core.Path.{_∙_}

@@ -1,3 +1,4 @@
+-- Past the end only the empty text begins, and a text longer than the rest does not; while bytes are equal, the bytes from k on decide.
 use Rattle.words.proofs.Laws.{begins-short, begins-turn, begins-differ, begins-end, begins-past, begins-start}
 use Rattle.definition.specs.Texts.{begins}
 use mathlib.Core.Path.{_≡_, sym, _∙_}

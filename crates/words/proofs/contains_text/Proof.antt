@@ -1,3 +1,4 @@
+-- Where w begins at i it is there; else what stands behind i decides, and at the end w is there just if it begins there.
 use borrow.Author.Needs.{needs}
 use Rattle.words.proofs.Laws.{contains-hit, contains-turn, contains-end}
 use Rattle.definition.specs.Texts.{contains}

@@ -1,3 +1,4 @@
+-- Where the low word is outside, so is the high one, and both are 0; else the two words that are read make the number.
 use Rattle.words.proofs.Laws.{long-out, long-read}
 use native.Mathlib.Omega.{arith}
 use borrow.Author.Needs.{needs}

@@ -1,3 +1,4 @@
+-- Texts of unequal lengths differ; while bytes are equal the rests from i on decide, and at the end both rests are empty.
 use Rattle.words.proofs.Laws.{same-length, same-turn, same-differ, same-end}
 use Rattle.definition.specs.Texts.{same}
 use mathlib.Core.Path.{_≡_, refl, sym, _∙_}

@@ -1,3 +1,4 @@
+-- Inside the file the four bytes are read; outside the answer is 0, as the definition has it.
 use Rattle.words.proofs.Laws.{word-out, word-read}
 use native.Mathlib.Omega.{arith}
 use borrow.Author.Needs.{needs}

@@ -1,3 +1,4 @@
+-- The first entries are zeros, one more at each turn; at the end all are.
 use native.Mathlib.Omega.{arith}
 use borrow.Author.Needs.{needs}
 use Prim.Native.Nat.{_-_}

@@ -1,3 +1,4 @@
+-- The first i longs are zeros and the length is kept; a turn adds one more, and at the end i has reached the length.
 use native.Mathlib.Omega.{arith}
 use borrow.Author.Needs.{needs}
 use Prim.Native.Nat.{_-_}

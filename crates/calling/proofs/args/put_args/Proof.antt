@@ -1,3 +1,4 @@
+-- The width decides as in the definition: of 32 bits the arguments are the pushes that wait, otherwise the first list items.
 use Rattle.calling.proofs.Taking.{items-of}
 use Rattle.calling.proofs.Whole.{args-pushed, args-counted}
 use borrow.Author.Needs.{needs}

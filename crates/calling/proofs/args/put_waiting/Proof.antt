@@ -1,3 +1,4 @@
+-- A call that is itself a push takes none of the pushes that wait; any other takes them all.
 use Rattle.calling.proofs.Whole.{waiting-none, waiting-all}
 use borrow.Author.Needs.{needs}
 use Rattle.calling.proofs.args.put_waiting.Statement.{statement}

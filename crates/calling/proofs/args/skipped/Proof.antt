@@ -1,3 +1,4 @@
+-- Without items nothing is skipped; with some, a computed call skips the one that is its address and no other call does.
 use Rattle.calling.proofs.Taking.{skip-empty, skip-one, skip-none}
 use Rattle.calling.proofs.args.skipped.Statement.{statement}
 use Rattle.calling.proofs.args.skipped.Tie as tie

@@ -1,3 +1,4 @@
+-- A dead call has no line; a live one's record is the definition's Call, so the tokens put are its tokens, ended at its address.
 use Rattle.lowering.proofs.Lines.{left-out, not-out, line-put}
 use Rattle.calling.proofs.Whole.{call-lines}
 use borrow.Author.Needs.{needs}

@@ -1,3 +1,4 @@
+-- Result, target, bracket, arguments, closing bracket: each callee's pieces behind those before it are the call's tokens.
 use Rattle.calling.proofs.Setting.{results-of}
 use Rattle.calling.proofs.Whole.{put-call}
 use mathlib.Core.Path.{_∙_}

@@ -1,3 +1,4 @@
+-- Five tests in turn, of the expression's record and of its lower child's: one that fails gives false, and the last is the answer.
 use Rattle.calling.proofs.Slots.{slot-past, slot-other, slot-high, slot-variable, slot-const}
 use borrow.Author.Needs.{needs}
 use Rattle.calling.proofs.callee.is_slot.Statement.{statement}

@@ -1,3 +1,4 @@
+-- Behind the last statement rendering writes the expression as lowering has it, and `(*` and `)` are put around it.
 use Rattle.calling.proofs.Slots.{put-computed}
 use borrow.Author.Needs.{needs}
 use Rattle.calling.proofs.callee.put_computed.Statement.{statement}

@@ -1,3 +1,4 @@
+-- A load of a constant that names a global prints that name; any other tree has no such name and prints in `(*` and `)`.
 use Rattle.calling.proofs.Slots.{first-slot, first-computed}
 use borrow.Author.Needs.{needs}
 use Rattle.calling.proofs.callee.put_first.Statement.{statement}

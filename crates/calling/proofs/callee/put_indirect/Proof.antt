@@ -1,3 +1,4 @@
+-- Without an item there is no target and nothing is put; otherwise the first item is the target, whatever follows it.
 use Rattle.calling.proofs.Slots.{indirect-none, indirect-first}
 use borrow.Author.Needs.{needs}
 use Rattle.calling.proofs.callee.put_indirect.Statement.{statement}

@@ -1,3 +1,4 @@
+-- The size is the load's and the constant its child's, so the name put is that of the global that is loaded.
 use Rattle.calling.proofs.Slots.{slot-put}
 use borrow.Author.Needs.{needs}
 use Rattle.calling.proofs.callee.put_slot.Statement.{statement}

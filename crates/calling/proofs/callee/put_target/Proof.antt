@@ -1,3 +1,4 @@
+-- The target's text decides: a computed call prints its first item, any other the name that the text gives a direct call.
 use Rattle.calling.proofs.Slots.{target-computed, target-direct}
 use borrow.Author.Needs.{needs}
 use Rattle.calling.proofs.callee.put_target.Statement.{statement}

@@ -1,3 +1,4 @@
+-- Without the mark of a push it is none; with it the kind decides, and only a Store is one.
 use Rattle.calling.proofs.Pushing.{push-kind, push-none}
 use borrow.Author.Needs.{needs}
 use Rattle.calling.proofs.pushed.is_push.Statement.{statement}

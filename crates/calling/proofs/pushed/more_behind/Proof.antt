@@ -1,3 +1,4 @@
+-- Where something stood before, it still does; otherwise something does exactly where this statement pushes.
 use Rattle.calling.proofs.Pushing.{more-if}
 use borrow.Author.Needs.{needs}
 use Rattle.calling.proofs.pushed.more_behind.Statement.{statement}

@@ -1,3 +1,4 @@
+-- A push puts its third field's expression as one more argument; any other statement puts nothing.
 use Rattle.calling.proofs.Pushing.{push-is, push-not}
 use borrow.Author.Needs.{needs}
 use Rattle.calling.proofs.pushed.put_push.Statement.{statement}

@@ -1,3 +1,4 @@
+-- The pushes before j are left to write, behind a comma once one is written; j falls, and at `from` none is left.
 use Rattle.calling.proofs.Pushing.{pushed-turn, pushed-end}
 use Rattle.calls.specs.Waiting.{pushedNodes}
 use Rattle.lowering.specs.Commas.{argsOf}

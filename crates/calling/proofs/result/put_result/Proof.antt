@@ -1,3 +1,4 @@
+-- No result, nothing put; otherwise the tables at its value's number say whether it is read, and the code of its name.
 use Rattle.calling.proofs.Setting.{result-none, result-unread, result-read}
 use Rattle.sums.proofs.Naming.{stmt-inside}
 use native.Mathlib.Omega.{arith}

@@ -1,3 +1,4 @@
+-- The name's token, then ` = `: the two tokens asked for.
 use Rattle.calling.proofs.Setting.{put-setting}
 use borrow.Author.Needs.{needs}
 use Rattle.calling.proofs.result.put_setting.Statement.{statement}

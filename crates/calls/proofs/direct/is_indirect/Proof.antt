@@ -1,3 +1,4 @@
+-- The spelling stands at its section's offset and its own start, so that part of the file beginning with a bracket is the test.
 use borrow.Author.Needs.{needs}
 use Rattle.calls.proofs.Naming.{indirect-is}
 use Rattle.calls.proofs.direct.is_indirect.Statement.{statement}

@@ -1,3 +1,4 @@
+-- Behind every leading sub_ is what the definition reads: where it spells no number there is no name, else the number's name is looked up.
 use borrow.Author.Needs.{needs}
 use native.Mathlib.Omega.{arith}
 use Rattle.calls.proofs.Trims.{size-most}

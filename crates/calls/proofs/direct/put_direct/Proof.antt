@@ -1,3 +1,4 @@
+-- By whether the address that is spelled has a name: then the piece is the name's text, and else the spelling.
 use borrow.Author.Needs.{needs}
 use Rattle.calls.proofs.Naming.{direct-plain, direct-named}
 use Rattle.calls.proofs.direct.put_direct.Statement.{statement}

@@ -1,3 +1,4 @@
+-- Of no statements none leaves; else the last has the number first + count - 1, and its record says whether it leaves.
 use borrow.Author.Needs.{needs}
 use Rattle.calls.proofs.Recorded.{last-none, last-is}
 use Rattle.calls.proofs.ends.last_leaves.Statement.{statement}

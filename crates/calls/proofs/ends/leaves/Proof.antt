@@ -1,3 +1,4 @@
+-- The number of the kind decides: a branch leaves, and any other statement does exactly if it is a return.
 use borrow.Author.Needs.{needs}
 use Rattle.calls.proofs.Recorded.{leaves-branch, leaves-return}
 use Rattle.calls.proofs.ends.leaves.Statement.{statement}

@@ -1,3 +1,4 @@
+-- By the definition's three ranges in its order: figures, small and capital letters each give their value, and any other byte none.
 use borrow.Author.Needs.{needs}
 use native.Mathlib.Omega.{arith}
 use Rattle.calls.proofs.Digits.{inside, digit-decimal, digit-lower, digit-upper, digit-none}

@@ -1,3 +1,4 @@
+-- A byte below the lower bound is outside; for any other the upper bound decides.
 use Rattle.calls.proofs.Digits.{within-not, within-up}
 use Rattle.calls.proofs.hex.is_within.Statement.{statement}
 use Rattle.calls.proofs.hex.is_within.Tie as tie

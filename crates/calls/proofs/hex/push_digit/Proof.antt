@@ -1,3 +1,4 @@
+-- A byte that is no digit gives no number; a digit is below 16, so it fits behind a number exactly if that is below 2^60.
 use borrow.Author.Needs.{needs}
 use native.Mathlib.Omega.{arith}
 use Rattle.calls.proofs.Digits.{push-no, push-small, push-over, push-fits}

@@ -1,3 +1,4 @@
+-- The whole is v with the digits from i on behind it; a digit that does not fit makes it no number, and at n none is left.
 use borrow.Author.Needs.{needs}
 use native.Mathlib.Omega.{arith}
 use Prim.Native.Nat.{_+_, _-_}

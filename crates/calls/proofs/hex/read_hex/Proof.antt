@@ -1,3 +1,4 @@
+-- Of no bytes there is no number; else the first byte is in the file, and if it is a plus the digits are read behind it.
 use borrow.Author.Needs.{needs}
 use native.Mathlib.Omega.{arith}
 use Rattle.calls.proofs.Digits.{hex-empty, hex-room, hex-plus, hex-plain}

@@ -1,3 +1,4 @@
+-- Without a digit there is no number; with one or more, the digits that are read are the number.
 use borrow.Author.Needs.{needs}
 use Rattle.calls.proofs.Digits.{some-none, some-is}
 use Rattle.calls.proofs.hex.read_some.Statement.{statement}

@@ -1,3 +1,4 @@
+-- Fewer bytes than the word has cannot begin with it; else the part begins with it exactly if the file has it there.
 use borrow.Author.Needs.{needs}
 use Rattle.calls.proofs.Trims.{begins-small, begins-inside}
 use Rattle.calls.proofs.parts.begins_part.Statement.{statement}

@@ -1,3 +1,4 @@
+-- Past the file's end no byte is there; where fewer than n are left, these are; else all n are.
 use borrow.Author.Needs.{needs}
 use Rattle.calls.proofs.Trims.{size-past, size-rest, size-all}
 use Rattle.calls.proofs.parts.part_size.Statement.{statement}

@@ -1,3 +1,4 @@
+-- Behind a call that takes them no push waits, so they wait from behind it on; any other statement adds itself if it is a push.
 use borrow.Author.Needs.{needs}
 use Rattle.calls.proofs.Waits.{wait-none, wait-on}
 use Rattle.calls.proofs.pushes.from_behind.Statement.{statement}

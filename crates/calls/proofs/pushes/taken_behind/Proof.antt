@@ -1,3 +1,4 @@
+-- No statement behind i and before j takes pushes, so the question from j on is the whole one; one that does, or the end, settles it.
 use borrow.Author.Needs.{needs}
 use native.Mathlib.Omega.{arith}
 use Prim.Native.Nat.{_+_, _-_}

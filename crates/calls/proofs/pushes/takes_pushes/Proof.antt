@@ -1,3 +1,4 @@
+-- A statement that is marked as a push takes none; any other takes them exactly if it is a call.
 use borrow.Author.Needs.{needs}
 use Rattle.calls.proofs.Recorded.{takes-not, takes-call}
 use Rattle.calls.proofs.pushes.takes_pushes.Statement.{statement}

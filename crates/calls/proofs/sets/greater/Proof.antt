@@ -1,3 +1,4 @@
+-- Where the first is at most the second, the second is the answer, and else the first, as the definition chooses.
 use Rattle.calls.proofs.Counting.{greater-right, greater-left}
 use Rattle.calls.proofs.sets.greater.Statement.{statement}
 use Rattle.calls.proofs.sets.greater.Tie as tie

@@ -1,3 +1,4 @@
+-- No argument above the first i is in the register, so the count among these is that of all; one that is ends it, or 0, to which i falls.
 use borrow.Author.Needs.{needs}
 use native.Mathlib.Omega.{arith}
 use mathlib.Core.Path.{_≡_}

@@ -1,3 +1,4 @@
+-- An Assign raises the count to its register's last place, if that is more; a live call makes it 0; all else leaves it.
 use borrow.Author.Needs.{needs}
 use Rattle.calls.proofs.Counting.{set-assign, set-other, set-dead, set-cleared}
 use Rattle.calls.proofs.sets.set_behind.Statement.{statement}

@@ -1,3 +1,4 @@
+-- The search for a block that begins there answers 0 exactly if the address is no block's start.
 use borrow.Author.Needs.{needs}
 use Rattle.calls.proofs.Naming.{block-is}
 use Rattle.calls.proofs.targets.is_block.Statement.{statement}

@@ -1,3 +1,4 @@
+-- A block's label does not begin with a star; where no block begins, the target is what is outside, and its text decides.
 use borrow.Author.Needs.{needs}
 use Rattle.calls.proofs.Naming.{raw-label, raw-outside}
 use Rattle.calls.proofs.targets.leaves_raw.Statement.{statement}

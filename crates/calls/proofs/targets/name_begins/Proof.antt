@@ -1,3 +1,4 @@
+-- A name's text stands at its section's offset and the start in its record, so the test of that part is one of the name.
 use borrow.Author.Needs.{needs}
 use Rattle.calls.proofs.Naming.{begins-name}
 use Rattle.calls.proofs.targets.name_begins.Statement.{statement}

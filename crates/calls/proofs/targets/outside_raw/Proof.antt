@@ -1,3 +1,4 @@
+-- Without a name, or with a label for one, it is the raw address, which begins with a star; for any other name its text decides.
 use borrow.Author.Needs.{needs}
 use Rattle.calls.proofs.Naming.{outside-unnamed, outside-label, outside-named, outward-raw, named-raw}
 use Rattle.calls.proofs.targets.outside_raw.Statement.{statement}

@@ -1,3 +1,4 @@
+-- Without a name, or with a label for one, the piece is the raw address; with any other name it is that name, as the definition chooses.
 use Rattle.room.proofs.Laws.{piece-as}
 use borrow.Author.Needs.{needs}
 use Rattle.calls.proofs.Naming.{outside-unnamed, outside-label, outside-named}

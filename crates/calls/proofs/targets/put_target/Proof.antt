@@ -1,3 +1,4 @@
+-- By whether a block begins at the address: then the piece is its label, and else the name of what is outside.
 use borrow.Author.Needs.{needs}
 use Rattle.calls.proofs.Naming.{put-label, put-name}
 use Rattle.calls.proofs.targets.put_target.Statement.{statement}

@@ -1,3 +1,4 @@
+-- The bytes from k on, trimmed, are the whole trimmed; as long as they begin with sub_, four more go, so the rest falls.
 use borrow.Author.Needs.{needs}
 use native.Mathlib.Omega.{arith}
 use Prim.Native.Nat.{_-_}

@@ -1,3 +1,4 @@
+-- Each number alone, joined phi by phi, its link made its root, only values' numbers kept: the table of the definition's roots.
 use mathlib.Core.Path.{sym, subst}
 use Rattle.classes.specs.Given.{Given}
 use Rattle.classes.proofs.Whole.{classes-are}

@@ -1,3 +1,4 @@
+-- RSP's phi joins nothing; any other joins its number with those at its inputs' places, all of which are inside.
 use mathlib.Core.Path.{refl}
 use Rattle.classes.proofs.Turns.{phi-count, phi-rsp, phi-joins, run-asks}
 use borrow.Author.Needs.{needs}

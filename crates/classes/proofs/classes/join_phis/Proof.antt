@@ -1,3 +1,4 @@
+-- Joining the phis from i on gives at every turn the roots that joining all gives; where phi i and its inputs stand is carried along.
 use native.Mathlib.Omega.{arith}
 use borrow.Author.Needs.{needs}
 use mathlib.Core.Path.{_≡_, refl, sym, subst, _∙_}

@@ -1,3 +1,4 @@
+-- Joining the inputs from the j-th on gives at every turn the roots that joining all gives; each turn is one union.
 use native.Mathlib.Omega.{arith}
 use borrow.Author.Needs.{needs}
 use mathlib.Core.Path.{_≡_, refl, sym, _∙_}

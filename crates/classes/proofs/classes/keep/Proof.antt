@@ -1,3 +1,4 @@
+-- A place without a key, or whose number is another place, keeps nothing; any other is a value's number and keeps x.
 use Rattle.classes.proofs.Turns.{kept-none, kept-other, kept-here}
 use borrow.Author.Needs.{needs}
 use Rattle.classes.proofs.classes.keep.Statement.{statement}

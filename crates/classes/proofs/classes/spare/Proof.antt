@@ -1,3 +1,4 @@
+-- Places below i have what they keep and those from i on are as they were, so that what is read at i is still the root.
 use native.Mathlib.Omega.{arith}
 use borrow.Author.Needs.{needs}
 use mathlib.Core.Path.{_≡_, refl}

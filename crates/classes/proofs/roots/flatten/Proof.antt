@@ -1,3 +1,4 @@
+-- Below i every link goes to its root, and a link that is moved to its root changes no roots; at the end every link is a root.
 use native.Mathlib.Omega.{arith}
 use borrow.Author.Needs.{needs}
 use mathlib.Core.Path.{_≡_, refl, _∙_}

@@ -1,3 +1,4 @@
+-- The keys at the two numbers are read, and their order is what the definition tests.
 use Rattle.classes.proofs.Turns.{less-is}
 use borrow.Author.Needs.{needs}
 use Rattle.classes.proofs.roots.less.Statement.{statement}

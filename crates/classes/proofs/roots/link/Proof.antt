@@ -1,3 +1,4 @@
+-- By the order of the keys: the greater of the two gets a link to the lesser, and of equal ones neither does.
 use mathlib.Core.Path.{sym, _∙_}
 use Rattle.classes.proofs.Labels.{link-down, link-up, link-none}
 use borrow.Author.Needs.{needs}

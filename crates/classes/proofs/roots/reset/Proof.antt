@@ -1,3 +1,4 @@
+-- Below i every entry is its own place; at the end the table counts up from 0.
 use native.Mathlib.Omega.{arith}
 use borrow.Author.Needs.{needs}
 use mathlib.Core.Path.{_≡_, refl}

@@ -1,3 +1,4 @@
+-- A link from c to its root r changes no root, and r is also the root of where c led; the key falls on the way.
 use Prim.Native.Nat.{_<_}
 use native.Mathlib.Omega.{arith}
 use borrow.Author.Needs.{needs}

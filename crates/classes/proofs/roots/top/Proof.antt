@@ -1,3 +1,4 @@
+-- The root over r is that over x; while the link leads to a lesser key r follows it and its key falls, and when not, r is the root.
 use Prim.Native.Nat.{_<_}
 use native.Mathlib.Omega.{arith}
 use borrow.Author.Needs.{needs}

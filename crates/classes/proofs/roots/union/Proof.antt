@@ -1,3 +1,4 @@
+-- The finds change no root and answer the roots of a and b; a link from the greater to the lesser makes one class of the two.
 use Rattle.classes.proofs.Labels.{union-is}
 use borrow.Author.Needs.{needs}
 use Rattle.classes.proofs.roots.union.Statement.{statement}

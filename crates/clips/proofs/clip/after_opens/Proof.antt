@@ -1,3 +1,4 @@
+-- Only ` (` stand between `from` and i, so trimming from i on is trimming all; to - i falls, since a ` (` that is found ends at `to` or before.
 use Rattle.clips.proofs.Ranges.{Opening, opens-none, opens-room, opens-turn, opens-end}
 use Prim.Native.Nat.{_-_}
 use mathlib.Core.Path.{sym, _∙_}

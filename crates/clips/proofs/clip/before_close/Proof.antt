@@ -1,3 +1,4 @@
+-- With fewer than two bytes in the text's part of the range there is nothing to cut; else its last two bytes decide whether `) ` goes.
 use Rattle.clips.proofs.Ranges.{close-short, close-not, close-cut}
 use mathlib.Core.Path.{sym, _∙_}
 use native.Mathlib.Omega.{arith}

@@ -1,3 +1,4 @@
+-- The count is k and what stands before `goto` from place k on; at a `goto`, or at the end, the latter is nothing.
 use Rattle.clips.proofs.Clips.{goto-start, goto-hit, goto-turn, goto-none}
 use Rattle.sheet.specs.Buffers.{tokensIn}
 use Rattle.definition.specs.Negate.{beforeGoto}

@@ -1,3 +1,4 @@
+-- The token at place 1 begins at the clip's own start, every other where it begins in the line.
 use Rattle.clips.proofs.Clips.{from-first, from-other}
 use borrow.Author.Needs.{needs}
 use Rattle.clips.proofs.clip.clip_from.Statement.{statement}

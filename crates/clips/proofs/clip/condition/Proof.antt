@@ -1,3 +1,4 @@
+-- Fewer than two tokens before `goto` make no condition; else the first is trimmed and the last cut, which keeps rising ends rising.
 use Rattle.clips.proofs.Orders.{orderly-none, orderly-is}
 use Rattle.clips.proofs.Clips.{condition-none, condition-is}
 use Prim.Native.Nat.{_≤_}

@@ -1,3 +1,4 @@
+-- The place read is a + k or one that reads the same, so the end that is read is the same.
 use Rattle.clips.proofs.Clips.{end-same}
 use borrow.Author.Needs.{needs}
 use Rattle.clips.proofs.clip.token_end.Statement.{statement}

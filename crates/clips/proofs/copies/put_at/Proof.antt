@@ -1,3 +1,4 @@
+-- Kind, start and end are read at a place that reads as a + k does, so the range put with that kind is the token at a + k.
 use Rattle.clips.proofs.Emits.{put-token}
 use borrow.Author.Needs.{needs}
 use Rattle.clips.proofs.copies.put_at.Statement.{statement}

@@ -1,3 +1,4 @@
+-- The gap is the range's length, 0 where it ends before it begins, so the part of that length is the range.
 use Rattle.clips.proofs.Emits.{put-range}
 use borrow.Author.Needs.{needs}
 use Rattle.clips.proofs.copies.put_between.Statement.{statement}

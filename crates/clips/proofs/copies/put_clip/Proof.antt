@@ -1,3 +1,4 @@
+-- The tokens at places 1 to k - 1 are written, empty ones left out, one place more at each turn; at the end these are all.
 use Rattle.clips.proofs.Emits.{texts-start, texts-turn, texts-end}
 use Rattle.clips.specs.Clip.{texts, clipAt, clip}
 use Rattle.room.specs.Room.{roomOf, emitAll, seen}

@@ -1,3 +1,4 @@
+-- Where the range is empty the token is left out, in code and definition alike; else the range is put with the token's kind.
 use Rattle.clips.proofs.Emits.{clip-none, clip-some}
 use Rattle.clips.proofs.Clips.{kind-same}
 use borrow.Author.Needs.{needs}

@@ -1,3 +1,4 @@
+-- The clip that is found holds the condition's tokens, so writing the clip writes the condition.
 use Rattle.room.proofs.Laws.{pieces-are}
 use borrow.Author.Needs.{needs}
 use Rattle.clips.proofs.copies.put_condition.Statement.{statement}

@@ -1,3 +1,4 @@
+-- The line's first k tokens are written, one more at each turn; at the end k is n.
 use Rattle.clips.proofs.Emits.{line-start, line-turn, line-end}
 use Rattle.sheet.specs.Buffers.{tokensIn}
 use Rattle.room.specs.Room.{roomOf, emitAll, seen}

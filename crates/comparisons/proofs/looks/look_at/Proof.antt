@@ -1,3 +1,4 @@
+-- What is no Punct changes nothing; else its parentheses are added, which fit, and it is a hit where they balance and it compares.
 use native.Mathlib.Omega.{arith}
 use Rattle.clips.proofs.Clips.{kind-same}
 use Rattle.comparisons.proofs.Looking.{step-other, step-hit, step-dull, step-inside, within-fits}

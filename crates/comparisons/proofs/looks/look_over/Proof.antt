@@ -1,3 +1,4 @@
+-- Looking on from token k gives what looking from 1 gives; the parentheses so far are bytes before k, so they fit; at the end no token is left.
 use native.Mathlib.Omega.{arith}
 use mathlib.Core.Path.{_≡_, refl, sym, _∙_}
 use Prim.Native.Nat.{_-_, _≤_, _<_}

@@ -1,3 +1,4 @@
+-- A sign found has a flip and nothing has none, and the definition compares exactly where the range has a sign to flip.
 use Rattle.comparisons.proofs.Comparing.{sign-none, sign-some, sign-compares}
 use mathlib.Core.Path.{_∙_}
 use borrow.Author.Needs.{needs}

@@ -1,3 +1,4 @@
+-- The count so far and that of the range from i on make that of the whole; a byte adds at most 1, so n fits, and at the end none is left.
 use borrow.Author.Needs.{needs}
 use native.Mathlib.Omega.{arith}
 use mathlib.Core.Path.{_≡_}

@@ -1,3 +1,4 @@
+-- The tests go in the definition's order: those before were skipped, so the first that holds is its sign; where none does there is nothing.
 use Rattle.comparisons.proofs.Comparing.{first-hit, first-skip, first-none}
 use Rattle.comparisons.specs.Signs.{nth, flipOf}
 use Rattle.definition.specs.Negate.{flips}

@@ -1,3 +1,4 @@
+-- The first place is i and how far w is from there on: 0 where the range from i begins with w, else one further; at the end 0 again.
 use borrow.Author.Needs.{needs}
 use native.Mathlib.Omega.{arith}
 use mathlib.Core.Path.{_≡_, refl, sym, _∙_}

@@ -1,3 +1,4 @@
+-- By the first sign found: it stands in the range, and its opposite in its place is the definition's flip; with none the range is put as it is.
 use Rattle.room.proofs.Laws.{next, done}
 use Rattle.comparisons.proofs.Comparing.{piece-is, sign-inside, sign-flips}
 use Rattle.comparisons.specs.Signs.{nth, flipOf}

@@ -1,3 +1,4 @@
+-- What is before the first old word, the new word and what is behind the old one are the range replaced; three Punct pieces join to one.
 use native.Mathlib.Omega.{arith}
 use Rattle.comparisons.proofs.Comparing.{replaced-fits, replaced-is}
 use borrow.Author.Needs.{needs}

@@ -1,3 +1,4 @@
+-- Equal bytes give 1 and others 0, the definition's two cases.
 use Rattle.comparisons.proofs.Comparing.{tally-same, tally-other}
 use Rattle.comparisons.proofs.signs.tally.Statement.{statement}
 use Rattle.comparisons.proofs.signs.tally.Tie as tie

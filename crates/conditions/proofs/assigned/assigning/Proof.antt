@@ -1,3 +1,4 @@
+-- One of the statements from k on assigns the value, since none before does; so one is found before they run out, and it is alike.
 use Rattle.conditions.proofs.Assigning.{alike, search-start, search-turn, search-end}
 use Rattle.conditions.specs.Assigns.{assignsAs}
 use Rattle.records.proofs.Items.{size-small}

@@ -1,3 +1,4 @@
+-- Kind, register and version are compared in turn: a difference in the first two gives false, and then the versions decide.
 use Rattle.conditions.proofs.Assigning.{no-assign, other-register, by-version}
 use mathlib.Core.Path.{refl}
 use borrow.Author.Needs.{needs}

@@ -1,3 +1,4 @@
+-- The setter and the code read give the definition's comparison: where there is one it is printed, otherwise the flags by their name.
 use Rattle.conditions.proofs.Pairing.{compared-there, compared-not}
 use borrow.Author.Needs.{needs}
 use Rattle.conditions.proofs.condition.put_compared.Statement.{statement}

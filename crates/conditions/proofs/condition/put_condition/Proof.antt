@@ -1,3 +1,4 @@
+-- Nothing found prints the flags by their name, a pair its comparison; the code's bytes are the text at the section's offset.
 use Rattle.conditions.proofs.Pairing.{by-nothing, by-pair, pair-fits}
 use borrow.Author.Needs.{needs}
 use Rattle.conditions.proofs.condition.put_condition.Statement.{statement}

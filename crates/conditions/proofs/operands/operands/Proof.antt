@@ -1,3 +1,4 @@
+-- What set the flags is nothing, two expressions, or a result; that one some statement of the block assigns, and the one found is alike.
 use Rattle.conditions.proofs.Pairing.{found-nothing, found-operands, found-result}
 use Rattle.conditions.proofs.Assigning.{one-assigns}
 use borrow.Author.Needs.{needs}

@@ -1,3 +1,4 @@
+-- The statement's place holds the key of the value that it assigns, so the value printed by its place is that one.
 use Rattle.conditions.proofs.Pairing.{place-low, assigned-named, assigned-put}
 use native.Mathlib.Omega.{arith}
 use borrow.Author.Needs.{needs}

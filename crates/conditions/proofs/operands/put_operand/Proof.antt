@@ -1,3 +1,4 @@
+-- A node is rendered behind all statements, an assigned value by its statement; either is what is to be printed of the operand.
 use Rattle.conditions.proofs.Pairing.{operand-assigns, operand-node, operand-assigned}
 use borrow.Author.Needs.{needs}
 use Rattle.conditions.proofs.operands.put_operand.Statement.{statement}

@@ -1,3 +1,4 @@
+-- Bracket, left operand, sign, right operand, bracket: the five pieces one behind the other are the list asked for.
 use Rattle.conditions.proofs.Sides.{between-put}
 use mathlib.Core.Path.{_∙_}
 use borrow.Author.Needs.{needs}

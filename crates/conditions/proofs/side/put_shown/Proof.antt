@@ -1,3 +1,4 @@
+-- The word for unsigned, the left side, the sign, the right side: what the four calls put is the comparison's tokens in order.
 use Rattle.conditions.proofs.Sides.{shown-put}
 use mathlib.Core.Path.{_∙_}
 use borrow.Author.Needs.{needs}

@@ -1,3 +1,4 @@
+-- By the five sides: an operand as it is, the difference and the conjunction in brackets around their sign, nought as the token 0.
 use Rattle.conditions.proofs.Sides.{left-put, right-put, difference-put, both-put, nought-put}
 use borrow.Author.Needs.{needs}
 use Rattle.conditions.proofs.side.put_side.Statement.{statement}

@@ -1,3 +1,4 @@
+-- By the six signs: in each case the text that is put is the one that the definition gives that sign.
 use Rattle.conditions.specs.Printed.{viewSign}
 use Rattle.definition.specs.Condition.{signText}
 use Rattle.conditions.proofs.Sides.{sign-put}

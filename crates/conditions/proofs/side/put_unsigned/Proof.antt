@@ -1,3 +1,4 @@
+-- An unsigned comparison gets the one keyword before it, a signed one nothing, as the definition chooses.
 use Rattle.conditions.proofs.Sides.{unsigned-put, none-put}
 use borrow.Author.Needs.{needs}
 use Rattle.conditions.proofs.side.put_unsigned.Statement.{statement}

@@ -1,3 +1,4 @@
+-- Where nothing is assigned, there is nothing to test; of one value, its own test is that of the list.
 use borrow.Author.Needs.{needs}
 use Rattle.defined.proofs.Defining.{none-lone, one-lone}
 use Rattle.defined.proofs.once.assigned_lone.Statement.{statement}

@@ -1,3 +1,4 @@
+-- What the first i statements assign is lone; one value that is not fails them all, their lists standing one behind the other.
 use Prim.Native.Nat.{_≤_, _-_}
 use mathlib.Core.Bool.{true}
 use mathlib.Core.Path.{_≡_, sym, _∙_}

@@ -1,3 +1,4 @@
+-- Nothing counts 0, and one value counts 1 where it equals v: the count over a list of none or one, at most 1.
 use native.Mathlib.Omega.{arith}
 use borrow.Author.Needs.{needs}
 use Rattle.defined.proofs.Defining.{count-none, count-hit}

@@ -1,3 +1,4 @@
+-- The comparison says whether the two are equal: 1 where they are and 0 where not, so at most 1.
 use native.Mathlib.Omega.{arith}
 use borrow.Author.Needs.{needs}
 use Rattle.defined.proofs.Defining.{hit-yes, hit-no}

@@ -1,3 +1,4 @@
+-- Version 0 is never lone; of another the hits among phis and statements add up to its count in the file, which must be 1.
 use mathlib.Core.Path.{refl}
 use borrow.Author.Needs.{needs}
 use Rattle.defined.proofs.Defining.{lone-zero, lone-count}

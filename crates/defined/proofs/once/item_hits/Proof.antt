@@ -1,3 +1,4 @@
+-- The sum counts the hits among the first k items; it is at most k, so it does not overflow, and at the end k is n.
 use Prim.Native.Nat.{_≤_, _-_, _+_}
 use mathlib.Core.Path.{_≡_, refl, ap, _∙_}
 use borrow.Author.Needs.{needs}

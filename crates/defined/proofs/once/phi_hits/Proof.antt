@@ -1,3 +1,4 @@
+-- The sum counts the hits among the first i phis; it is at most i, so it does not overflow, and at the end i is their count.
 use Prim.Native.Nat.{_≤_, _-_}
 use mathlib.Core.Path.{_≡_, ap, _∙_}
 use borrow.Author.Needs.{needs}

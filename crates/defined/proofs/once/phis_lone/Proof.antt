@@ -1,3 +1,4 @@
+-- The values of the first i phis are lone; one that is not fails them all, and at the end i is their count.
 use Prim.Native.Nat.{_≤_, _-_}
 use mathlib.Core.Bool.{true}
 use mathlib.Core.Path.{_≡_, sym, ap, _∙_}

@@ -1,3 +1,4 @@
+-- What must be lone is the list of the phis, then that of the Assigns: where the first fails all fails, else the second decides.
 use mathlib.Core.Path.{_∙_}
 use borrow.Author.Needs.{needs}
 use Rattle.defined.specs.Defined.{lone}

@@ -1,3 +1,4 @@
+-- Hits of what is assigned, what is returned and the items add up; the first two are 1 at most, the third at most the items.
 use mathlib.Core.Path.{ap, _∙_}
 use native.Mathlib.Omega.{arith}
 use borrow.Author.Needs.{needs}

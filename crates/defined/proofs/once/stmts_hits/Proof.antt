@@ -1,3 +1,4 @@
+-- The sum counts the statements before i, at most their items and two for each, so it fits; `at` is where the next items begin.
 use Prim.Native.Nat.{_*_, _≤_, _-_, _+_}
 use mathlib.Core.Path.{_≡_}
 use borrow.Author.Needs.{needs}

@@ -1,3 +1,4 @@
+-- Nothing needs no slot; of one value, its own slot is what the list is tested for.
 use borrow.Author.Needs.{needs}
 use Rattle.defined.specs.Slots.{free}
 use Rattle.defined.proofs.Tested.{none-all, one-all}

@@ -1,3 +1,4 @@
+-- Where the slots tell, the answer is true; where they do not, the exact scan answers. The table is cleared either way.
 use Prim.Native.Nat.{ℕ}
 use mathlib.Core.Path.{sym, ap, _∙_}
 use lib.ListN.{replicate}

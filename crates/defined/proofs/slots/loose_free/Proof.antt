@@ -1,3 +1,4 @@
+-- What Calls and Others before statement i define has free slots, and `at` is where the items of i begin.
 use Prim.Native.Nat.{_≤_, _-_}
 use mathlib.Core.Path.{_≡_, sym, _∙_}
 use mathlib.Core.Bool.{true}

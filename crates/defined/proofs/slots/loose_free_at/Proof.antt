@@ -1,3 +1,4 @@
+-- What a Call returns stands before the values among the items: where its slot is not free all fails, else the items decide.
 use mathlib.Core.Path.{ap, _∙_}
 use native.Mathlib.Omega.{arith}
 use borrow.Author.Needs.{needs}

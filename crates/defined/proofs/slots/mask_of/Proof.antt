@@ -1,3 +1,4 @@
+-- The shift is by less than 32, so the bit stays inside 32 bits and is the definition's power of two.
 use borrow.Author.Needs.{needs}
 use Rattle.defined.proofs.Bits.{mask-is}
 use Rattle.defined.proofs.slots.mask_of.Statement.{statement}

@@ -1,3 +1,4 @@
+-- Register modulo 16 times 128, and the version's part modulo 128: small, so the sum is the definition's as it stands.
 use borrow.Author.Needs.{needs}
 use Rattle.defined.proofs.Bits.{place-is}
 use Rattle.defined.proofs.slots.place_of.Statement.{statement}

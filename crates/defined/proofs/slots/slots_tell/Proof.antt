@@ -1,3 +1,4 @@
+-- False claims nothing; true says that strict values each found a free slot, and that loose ones have other slots: each is alone.
 use mathlib.Core.Bool.{false≢true}
 use borrow.Author.Needs.{needs}
 use Rattle.defined.proofs.Alone.{slots-told}

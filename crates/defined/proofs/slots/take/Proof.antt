@@ -1,3 +1,4 @@
+-- Version 0 or a slot that is not free leaves the table as it is; a free slot lies in the table, and its bit is set.
 use Prim.Native.Nat.{_<_}
 use mathlib.Core.Path.{sym, _∙_}
 use native.Mathlib.Omega.{arith}

@@ -1,3 +1,4 @@
+-- To take what Assigns from i on define, in the table so far, is to take it all; a value that fails ends it, and later ones do nothing.
 use Prim.Native.Nat.{_≤_, _-_}
 use mathlib.Core.Path.{_≡_, refl, ap, _∙_}
 use mathlib.Core.Bool.{true}

@@ -1,3 +1,4 @@
+-- Nothing takes no slot; one value takes its own, as a list of one does.
 use borrow.Author.Needs.{needs}
 use Rattle.defined.proofs.Taking.{take-none, take-given}
 use Rattle.defined.proofs.slots.take_defined.Statement.{statement}

@@ -1,3 +1,4 @@
+-- To take the phis from i on, in the table so far, is to take them all; one that fails ends it, and later ones do nothing.
 use Prim.Native.Nat.{_≤_, _-_}
 use mathlib.Core.Path.{_≡_, refl, _∙_}
 use mathlib.Core.Bool.{true}

@@ -1,3 +1,4 @@
+-- The phis come first: where one fails the Assigns change nothing, else they go on with the table that the phis left.
 use borrow.Author.Needs.{needs}
 use Rattle.defined.proofs.Taking.{strict-ends, strict-taken}
 use Rattle.defined.proofs.slots.take_strict.Statement.{statement}

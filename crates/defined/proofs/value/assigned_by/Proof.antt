@@ -1,3 +1,4 @@
+-- Only an Assign assigns, and its value is fields 0 and 1; any other kind gives nothing.
 use borrow.Author.Needs.{needs}
 use Rattle.defined.proofs.Values.{assigns, assigns-not}
 use Rattle.defined.proofs.value.assigned_by.Statement.{statement}

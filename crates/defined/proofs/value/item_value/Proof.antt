@@ -1,3 +1,4 @@
+-- Words 0 and 1 of the item are the register and the version of the definition's value.
 use borrow.Author.Needs.{needs}
 use Rattle.defined.proofs.Values.{item-read}
 use Rattle.defined.proofs.value.item_value.Statement.{statement}

@@ -1,3 +1,4 @@
+-- The items of i are its expressions and its values, and the next begin behind them; all items are owned, so the sums fit.
 use native.Mathlib.Omega.{arith}
 use borrow.Author.Needs.{needs}
 use Rattle.defined.proofs.Values.{item-turn, exprs-small, items-small}

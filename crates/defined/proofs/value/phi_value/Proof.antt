@@ -1,3 +1,4 @@
+-- Words 0 and 1 of the phi are the register and the version of the definition's value.
 use borrow.Author.Needs.{needs}
 use Rattle.defined.proofs.Values.{phi-read}
 use Rattle.defined.proofs.value.phi_value.Statement.{statement}

@@ -1,3 +1,4 @@
+-- What is no Call, or a Call whose field 3 is not 1, returns nothing; else fields 4 and 5 are the value.
 use borrow.Author.Needs.{needs}
 use Rattle.defined.proofs.Values.{calls-not, returns-none, returns-one}
 use Rattle.defined.proofs.value.returned_by.Statement.{statement}

@@ -1,3 +1,4 @@
+-- Values of different registers differ; of the same register, the versions decide.
 use mathlib.Core.Path.{refl}
 use Rattle.defined.proofs.Values.{other-reg, same-reg}
 use Rattle.defined.proofs.value.same_value.Statement.{statement}

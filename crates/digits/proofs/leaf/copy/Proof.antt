@@ -1,3 +1,4 @@
+-- Without room nothing is touched; else the first i bytes are the source's and the rest is as it was, until i is the source's length.
 use Rattle.digits.proofs.Copies.{copy-more, copy-done}
 use Rattle.digits.proofs.Leaves.{leaf-short}
 use lib.ListN.{length, take, drop, set, length-set, getD}

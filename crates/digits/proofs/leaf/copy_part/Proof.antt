@@ -1,3 +1,4 @@
+-- Behind the file's end the part is empty; with fewer than n bytes left it is all of them; else it is the n bytes that were lent.
 use Rattle.digits.proofs.Copies.{part-past, part-rest, part-in}
 use Rattle.digits.proofs.Leaves.{leaf-as}
 use borrow.Author.Needs.{needs}

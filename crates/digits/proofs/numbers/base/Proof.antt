@@ -1,3 +1,4 @@
+-- By the radix: 10 or 16, as the definition has it, and both are from 2 to 16.
 use native.Mathlib.Omega.{arith}
 use Rattle.digits.specs.Numeral.{baseOf}
 use borrow.Author.Needs.{needs}

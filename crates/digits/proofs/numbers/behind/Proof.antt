@@ -1,3 +1,4 @@
+-- Without room for the front, or for the digits behind it, nothing is touched; where the digits fit behind it, so does the front.
 use lib.ListN.{length}
 use Prim.Native.Nat.{_+_, _≤_}
 use Rattle.digits.proofs.Leaves.{no-front, no-end, end-count, both-fit}

@@ -1,3 +1,4 @@
+-- Below ten the digit is counted from the character 0, from ten on from the letter for ten, by the definition's own test.
 use Rattle.digits.proofs.Digits.{digit-low, digit-high}
 use borrow.Author.Needs.{needs}
 use Rattle.digits.proofs.numbers.digit.Statement.{statement}

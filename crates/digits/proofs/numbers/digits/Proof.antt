@@ -1,3 +1,4 @@
+-- With fewer bytes than digits nothing is touched; else digits filled in from the last one down are the numeral.
 use Rattle.digits.proofs.Digits.{digits-short, digits-fit}
 use borrow.Author.Needs.{needs}
 use Rattle.digits.proofs.numbers.digits.Statement.{statement}

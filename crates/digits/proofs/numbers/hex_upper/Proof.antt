@@ -1,3 +1,4 @@
+-- The numeral to base 16 with letters from A on is the definition's HEX.
 use Rattle.digits.proofs.Texts.{HEX-is}
 use Rattle.digits.proofs.Leaves.{leaf-as}
 use borrow.Author.Needs.{needs}

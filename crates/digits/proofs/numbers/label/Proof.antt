@@ -1,3 +1,4 @@
+-- The front `loc_` with upper case hexadecimal digits behind it is the definition's label.
 use Rattle.digits.proofs.Texts.{label-is}
 use Rattle.digits.proofs.Leaves.{leaf-as}
 use borrow.Author.Needs.{needs}

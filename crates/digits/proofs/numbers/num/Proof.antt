@@ -1,3 +1,4 @@
+-- Below 2^63 the bits themselves, else a minus and what is missing to 2^64; either is written in decimal up to 9 and in hexadecimal above.
 use Rattle.digits.proofs.Texts.{num-digit, num-hex, num-minus-digit, num-minus-hex}
 use Rattle.digits.proofs.Leaves.{leaf-as}
 use native.Mathlib.Omega.{arith}

@@ -1,3 +1,4 @@
+-- The front `*0x` with lower case hexadecimal digits behind it is the definition's raw address.
 use Rattle.digits.proofs.Texts.{outward-is}
 use Rattle.digits.proofs.Leaves.{leaf-as}
 use borrow.Author.Needs.{needs}

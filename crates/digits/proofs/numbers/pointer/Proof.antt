@@ -1,3 +1,4 @@
+-- Front and digits are one text, the end another behind it: one of them has no room and nothing is touched, or both are written.
 use lib.ListN.{length}
 use Prim.Native.Nat.{_+_, _*_, _≤_}
 use Rattle.digits.proofs.Texts.{pointer-size, pointer-is}

@@ -1,3 +1,4 @@
+-- Below 2^63 it is a variable, by what is missing to 2^63; from there on an argument, by what is over.
 use Rattle.digits.proofs.Texts.{slot-below, slot-above}
 use Rattle.digits.proofs.Leaves.{leaf-as}
 use borrow.Author.Needs.{needs}

@@ -1,3 +1,4 @@
+-- By the radix: a small or a capital A, as the definition has it, and neither is above 97.
 use native.Mathlib.Omega.{arith}
 use Rattle.digits.specs.Numeral.{tenOf}
 use borrow.Author.Needs.{needs}

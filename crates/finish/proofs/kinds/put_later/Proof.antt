@@ -1,3 +1,4 @@
+-- By the kind, as the definition tests it: 7 puts `do {`, 8 puts `} while (C);`, any other the lowered line as it is.
 use Rattle.finish.proofs.Written.{is-do, is-while, is-plain}
 use borrow.Author.Needs.{needs}
 use Rattle.finish.proofs.kinds.put_later.Statement.{statement}

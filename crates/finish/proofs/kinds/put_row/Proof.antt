@@ -1,3 +1,4 @@
+-- By the kind: 6 puts `}`, 5 the head of an if, whose tokens' ends rise as the caller promises, and any other what the later kinds put.
 use Rattle.finish.proofs.Written.{is-close, is-open, is-later}
 use borrow.Author.Needs.{needs}
 use Rattle.finish.proofs.kinds.put_row.Statement.{statement}

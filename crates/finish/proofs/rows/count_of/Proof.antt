@@ -1,3 +1,4 @@
+-- The count is last less first, and 0 where last is before first, as the definition's difference is.
 use Rattle.finish.proofs.Written.{count-none, count-some}
 use borrow.Author.Needs.{needs}
 use Rattle.finish.proofs.rows.count_of.Statement.{statement}

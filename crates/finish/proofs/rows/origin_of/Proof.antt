@@ -1,3 +1,4 @@
+-- The origin is the row without its lower 40 bits: one division, in code and definition alike.
 use mathlib.Core.Path.{refl}
 use Rattle.outline.specs.Rows.{originOf}
 use Rattle.finish.proofs.rows.origin_of.Statement.{statement}

@@ -1,3 +1,4 @@
+-- A closing row has no address, any other that of the lowered line it comes from.
 use Rattle.finish.proofs.Written.{row-closes, row-stands}
 use borrow.Author.Needs.{needs}
 use Rattle.finish.proofs.rows.row_address.Statement.{statement}

@@ -1,3 +1,4 @@
+-- The lowered indent and the steps up to the row's sum to the row's, too small to be cut off; a row less deep than its line keeps its own.
 use Rattle.finish.proofs.Deepened.{deepened}
 use borrow.Author.Needs.{needs}
 use Rattle.finish.proofs.rows.row_indent.Statement.{statement}

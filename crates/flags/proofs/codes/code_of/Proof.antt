@@ -1,3 +1,4 @@
+-- The bytes that the file has of the text decide: one or two are looked up by letter, and no code has another length.
 use mathlib.Core.Path.{refl}
 use Rattle.flags.proofs.Parts.{length-is, one-byte, two-bytes}
 use Rattle.flags.proofs.Letters.{letters, other-length}

@@ -1,3 +1,4 @@
+-- Six letters are a code each, the definition's for that text; a byte that is none of them is no code.
 use mathlib.Core.List.{[]}
 use mathlib.Core.Path.{refl}
 use Rattle.definition.specs.Texts.{same}

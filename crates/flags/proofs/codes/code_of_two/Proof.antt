@@ -1,3 +1,4 @@
+-- Of two letters a code ends in e or in s: before an e the first letter decides, and before an s only n makes a code.
 use Rattle.flags.proofs.Letters.{second, is-ns, only-n, no-second}
 use borrow.Author.Needs.{needs}
 use Rattle.flags.proofs.codes.code_of_two.Statement.{statement}

@@ -1,3 +1,4 @@
+-- Five letters before an e are a code each, the definition's for that text; a byte that is none of them makes no code.
 use mathlib.Core.List.{[], _∷_}
 use mathlib.Core.Path.{refl}
 use Rattle.definition.specs.Texts.{same}

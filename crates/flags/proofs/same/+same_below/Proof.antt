@@ -1,3 +1,4 @@
+-- Trees are equal where the heads are the same and the children equal; a node that has children is below its bound, so the bound falls.
 use borrow.Author.Tests.{not-true, not-false}
 use Rattle.flags.proofs.Nodes.{bound-falls, heads-differ, leaf, left-differs, one-child, two-children}
 use borrow.Author.Needs.{needs}

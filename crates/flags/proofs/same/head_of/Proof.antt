@@ -1,3 +1,4 @@
+-- By the six kinds of node: the head that is made of its numbers or its text is the definition's for that kind.
 use Rattle.flags.proofs.Nodes.{head-as}
 use Rattle.flags.specs.Heads.{headOf}
 use borrow.Author.Needs.{needs}

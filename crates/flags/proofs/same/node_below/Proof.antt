@@ -1,3 +1,4 @@
+-- Below the bound it is the record's node; any other is an Opaque without text, as the definition has it.
 use Rattle.flags.specs.Heads.{noText}
 use Rattle.flags.proofs.Nodes.{node-in, node-out}
 use borrow.Author.Needs.{needs}

@@ -1,3 +1,4 @@
+-- The trees below the number of expressions are all trees, so the comparison with that bound on both sides is of the two expressions.
 use Rattle.flags.proofs.Nodes.{all-tell}
 use borrow.Author.Needs.{needs}
 use Rattle.flags.proofs.same.same_expr.Statement.{statement}

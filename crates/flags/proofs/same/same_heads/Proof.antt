@@ -1,3 +1,4 @@
+-- Tags and both numbers are compared in turn, and the first that differs says no; where they agree the texts decide.
 use Rattle.flags.proofs.Nodes.{tags-differ, lows-differ, highs-differ, texts-tell}
 use borrow.Author.Needs.{needs}
 use Rattle.flags.proofs.same.same_heads.Statement.{statement}

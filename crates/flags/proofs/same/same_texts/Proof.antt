@@ -1,3 +1,4 @@
+-- Each text stands at the section's offset and its own start, so comparing those parts of the file compares the texts.
 use Rattle.flags.proofs.Parts.{both-texts}
 use borrow.Author.Needs.{needs}
 use Rattle.flags.proofs.same.same_texts.Statement.{statement}

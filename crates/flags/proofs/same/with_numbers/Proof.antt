@@ -1,3 +1,4 @@
+-- The record that is made is the definition's: the numbers and the left child as given, no text, 0 for the right child.
 use mathlib.Core.Path.{refl}
 use Rattle.flags.specs.Heads.{noText, numbered}
 use Rattle.flags.proofs.same.with_numbers.Statement.{statement}

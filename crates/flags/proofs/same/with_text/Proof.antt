@@ -1,3 +1,4 @@
+-- The record that is made is the definition's: the text and the children as given, 0 for both numbers.
 use mathlib.Core.Path.{refl}
 use Rattle.flags.specs.Heads.{worded}
 use Rattle.flags.proofs.same.with_text.Statement.{statement}

@@ -1,3 +1,4 @@
+-- What is no TEST is a CMP; a TEST is one of an operand and itself exactly if the two trees are equal.
 use borrow.Author.Tests.{not-true, not-false}
 use Rattle.flags.proofs.Settings.{is-cmp, is-same, is-test}
 use borrow.Author.Needs.{needs}

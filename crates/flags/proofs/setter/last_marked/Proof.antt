@@ -1,3 +1,4 @@
+-- The last marked of the first k statements is `last`, and the walk from first + k on is left; at `count` nothing is.
 use native.Mathlib.Omega.{arith}
 use borrow.Author.Needs.{needs}
 use Prim.Native.Nat.{_+_, _-_, _≤_}

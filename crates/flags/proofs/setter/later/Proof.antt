@@ -1,3 +1,4 @@
+-- The mark for flags is what the definition tests: with it statement i is the last one, and without it the last before stays.
 use Rattle.flags.proofs.Marks.{is-marked, not-marked}
 use borrow.Author.Needs.{needs}
 use Rattle.flags.proofs.setter.later.Statement.{statement}

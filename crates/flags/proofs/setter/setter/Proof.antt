@@ -1,3 +1,4 @@
+-- The last marked statement is the definition's last setter, and its kind says the setting; where none is marked nothing is set.
 use Rattle.flags.proofs.Settings.{set-last, none-set}
 use borrow.Author.Needs.{needs}
 use Rattle.flags.proofs.setter.setter.Statement.{statement}

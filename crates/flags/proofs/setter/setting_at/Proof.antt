@@ -1,3 +1,4 @@
+-- By the statement's kind: Flags compare two operands, an Assign gives its value unless that is RSP's, and no other kind sets any.
 use Rattle.flags.proofs.Settings.{at-kind, at-none, at-rsp, at-assign}
 use borrow.Author.Needs.{needs}
 use Rattle.flags.proofs.setter.setting_at.Statement.{statement}

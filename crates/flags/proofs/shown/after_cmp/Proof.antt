@@ -1,3 +1,4 @@
+-- By the code: each of the twelve has the comparison that the definition gives it after a CMP, and what is no code has none.
 use Rattle.definition.specs.Condition.Setter.{cmp}
 use Rattle.flags.proofs.Printing.{shown-as}
 use Rattle.definition.specs.Condition.{shown}

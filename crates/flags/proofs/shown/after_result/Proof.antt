@@ -1,3 +1,4 @@
+-- By the code: four compare the value with 0 as the definition does after arithmetic, and all others have no comparison.
 use Rattle.definition.specs.Condition.Setter.{result}
 use mathlib.Core.Path.{ap, _∙_}
 use Rattle.flags.proofs.Printing.{shown-as, result-none}

@@ -1,3 +1,4 @@
+-- By the code: six compare the operand with 0 as the definition does after a TEST of it and itself, and all others have no comparison.
 use mathlib.Core.Path.{ap, _∙_}
 use Rattle.flags.proofs.Printing.{shown-as, same-none}
 use Rattle.definition.specs.Condition.{shown}

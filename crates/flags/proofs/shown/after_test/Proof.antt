@@ -1,3 +1,4 @@
+-- By the code: two compare both operands together with 0 as the definition does after a TEST, and all others have no comparison.
 use Rattle.definition.specs.Condition.Setter.{test}
 use mathlib.Core.Path.{ap, _∙_}
 use Rattle.flags.proofs.Printing.{shown-as, test-none}

@@ -1,3 +1,4 @@
+-- The record that is made is the one that stands for no comparison; what it has besides says nothing.
 use mathlib.Core.Path.{refl}
 use Rattle.flags.specs.Views.{shownRecord}
 use Rattle.flags.proofs.shown.nothing.Statement.{statement}

@@ -1,3 +1,4 @@
+-- By what set the flags: each of the four has its own function of the code, which says the definition's comparison after it.
 use Rattle.flags.proofs.Printing.{set-by}
 use Rattle.flags.specs.Views.{viewSetter, shownOf}
 use borrow.Author.Needs.{needs}

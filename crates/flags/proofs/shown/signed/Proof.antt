@@ -1,3 +1,4 @@
+-- The record that is made is the printed comparison of the two sides by the sign, not unsigned.
 use mathlib.Core.Path.{refl}
 use Rattle.flags.specs.Views.{printed}
 use Rattle.flags.proofs.shown.signed.Statement.{statement}

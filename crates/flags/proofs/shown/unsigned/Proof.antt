@@ -1,3 +1,4 @@
+-- The record that is made is the printed comparison of the left operand with the right one by the sign, unsigned.
 use mathlib.Core.Path.{refl}
 use Rattle.flags.specs.Views.{printed}
 use Rattle.flags.proofs.shown.unsigned.Statement.{statement}

@@ -1,3 +1,4 @@
+-- Past the file's end the span is empty; where fewer than n bytes are left it ends with the file; else it has n: each time it holds the part.
 use Rattle.flags.proofs.Parts.{clip-past, clip-rest, clip-in}
 use borrow.Author.Needs.{needs}
 use Rattle.flags.proofs.spans.clip.Statement.{statement}

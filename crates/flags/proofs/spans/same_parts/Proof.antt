@@ -1,3 +1,4 @@
+-- Each clipped span lies inside the file and holds its part, so comparing the bytes of the two spans compares the two parts.
 use Rattle.flags.proofs.Parts.{both-parts}
 use borrow.Author.Needs.{needs}
 use Rattle.flags.proofs.spans.same_parts.Statement.{statement}

@@ -1,3 +1,4 @@
+-- Left out by the definition's test there is no line; otherwise the goto's tokens are put, and their line ends at no address.
 use Rattle.gotos.proofs.Ends.{closing-out, closing-put}
 use borrow.Author.Needs.{needs}
 use Rattle.gotos.proofs.closing.close_to.Statement.{statement}

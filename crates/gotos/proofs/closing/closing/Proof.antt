@@ -1,3 +1,4 @@
+-- A block that is left has no line; otherwise the goto goes where it falls, else where it branches, and with neither edge there is none.
 use Rattle.gotos.proofs.Ends.{closing-leaves, closing-fall, closing-taken, closing-none}
 use borrow.Author.Needs.{needs}
 use Rattle.gotos.proofs.closing.closing.Statement.{statement}

@@ -1,3 +1,4 @@
+-- The start of the next block is left out; any other address exactly where no block starts.
 use Rattle.gotos.proofs.Ends.{out-next, out-other}
 use borrow.Author.Needs.{needs}
 use Rattle.gotos.proofs.closing.is_left_out.Statement.{statement}

@@ -1,3 +1,4 @@
+-- The tokens of a goto to the name are put, and their line ends at the statement's address.
 use Rattle.gotos.proofs.Lines.{stmt-put}
 use borrow.Author.Needs.{needs}
 use Rattle.gotos.proofs.goto.name_line.Statement.{statement}

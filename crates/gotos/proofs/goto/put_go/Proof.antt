@@ -1,3 +1,4 @@
+-- The keyword, then a space: the two tokens in order.
 use Rattle.gotos.proofs.Gotos.{go-put}
 use borrow.Author.Needs.{needs}
 use Rattle.gotos.proofs.goto.put_go.Statement.{statement}

@@ -1,3 +1,4 @@
+-- The word goto with its space, the block's label and `;` one behind the other are the goto's tokens.
 use Rattle.gotos.proofs.Gotos.{goto-put}
 use borrow.Author.Needs.{needs}
 use Rattle.gotos.proofs.goto.put_goto.Statement.{statement}

@@ -1,3 +1,4 @@
+-- The word goto with its space, the name of what is at the address and `;` one behind the other are the goto's tokens.
 use Rattle.gotos.proofs.Gotos.{goto-put}
 use Rattle.gotos.specs.Written.{nameOf}
 use borrow.Author.Needs.{needs}

@@ -1,3 +1,4 @@
+-- How many uses there are is the statement's field; the computed goto's tokens are put and their line ends at the statement's address.
 use Rattle.gotos.proofs.Lines.{stmt-put, computed-all}
 use borrow.Author.Needs.{needs}
 use Rattle.gotos.proofs.jump.computed.Statement.{statement}

@@ -1,3 +1,4 @@
+-- The keyword, a star, the first use if there is one, and `;`: the four pieces in order are the computed goto's.
 use Rattle.gotos.proofs.Lines.{computed-put}
 use mathlib.Core.Path.{_∙_}
 use borrow.Author.Needs.{needs}

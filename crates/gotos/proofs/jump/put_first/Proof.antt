@@ -1,3 +1,4 @@
+-- Without a use nothing is put; otherwise the first item's expression, with no comma before it.
 use Rattle.gotos.proofs.Using.{first-none, first-put}
 use borrow.Author.Needs.{needs}
 use Rattle.gotos.proofs.jump.put_first.Statement.{statement}

@@ -1,3 +1,4 @@
+-- Into the next block no line is needed; elsewhere the goto's tokens are put, and their line ends at the statement's address.
 use Rattle.gotos.proofs.Lines.{block-next, block-put, stmt-put}
 use borrow.Author.Needs.{needs}
 use Rattle.gotos.proofs.jump.to_block.Statement.{statement}

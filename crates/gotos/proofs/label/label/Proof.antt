@@ -1,3 +1,4 @@
+-- The table's mark at the block is 1 exactly where the definition has a jump to its start, and only then a label line is put.
 use Rattle.gotos.proofs.Ends.{label-put, label-none}
 use borrow.Author.Needs.{needs}
 use Rattle.gotos.proofs.label.label.Statement.{statement}

@@ -1,3 +1,4 @@
+-- The label's name, then a colon: the two tokens of the mark.
 use Rattle.gotos.proofs.Gotos.{mark-put}
 use borrow.Author.Needs.{needs}
 use Rattle.gotos.proofs.label.put_mark.Statement.{statement}

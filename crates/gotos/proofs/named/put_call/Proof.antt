@@ -1,3 +1,4 @@
+-- `return ` where the result is returned, the name with its arguments, and `;` behind them are the call's tokens.
 use Rattle.gotos.proofs.Leaving.{call-put}
 use borrow.Author.Needs.{needs}
 use Rattle.gotos.proofs.named.put_call.Statement.{statement}

@@ -1,3 +1,4 @@
+-- The name, a bracket, the items with commas and a bracket; the items' trees are the uses, so these are the pieces asked for.
 use Rattle.gotos.proofs.Leaving.{named-put}
 use Rattle.gotos.specs.Written.{nameOf}
 use mathlib.Core.Path.{_∙_}

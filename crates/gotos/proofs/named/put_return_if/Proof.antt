@@ -1,3 +1,4 @@
+-- Where the result is returned the keyword and a space are put, the definition's two tokens; else there is none and the room stays.
 use Rattle.gotos.proofs.Leaving.{return-not, return-put}
 use borrow.Author.Needs.{needs}
 use Rattle.gotos.proofs.named.put_return_if.Statement.{statement}

@@ -1,3 +1,4 @@
+-- Where the result is returned no line follows; else the keyword and `;` are put, and their line ends at the statement's address.
 use Rattle.gotos.proofs.Leaving.{end-put, end-not, end-line}
 use Rattle.gotos.proofs.Lines.{stmt-put}
 use borrow.Author.Needs.{needs}

@@ -1,3 +1,4 @@
+-- A name that begins with a star is a raw address and gets a goto; any other is called as a tail call.
 use Rattle.gotos.proofs.Leaving.{leave-raw, leave-call}
 use Rattle.gotos.specs.Written.{nameOf}
 use borrow.Author.Needs.{needs}

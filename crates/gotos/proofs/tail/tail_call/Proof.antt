@@ -1,3 +1,4 @@
+-- The line of the call, then `return;` where the function returns nothing: the two lists of lines stand one behind the other.
 use Rattle.gotos.proofs.Leaving.{tail-put}
 use borrow.Author.Needs.{needs}
 use Rattle.gotos.proofs.tail.tail_call.Statement.{statement}

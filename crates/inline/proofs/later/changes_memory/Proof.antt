@@ -1,3 +1,4 @@
+-- By the number of the kind: Assign, Branch, Flags and Return leave memory as it is, and every other number counts as a change.
 use native.Mathlib.Omega.{arith}
 use Rattle.inline.proofs.Returns.{assign-stays, between-stays, others-change}
 use borrow.Author.Needs.{needs}

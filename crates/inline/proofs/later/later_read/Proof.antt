@@ -1,3 +1,4 @@
+-- A reader not behind i, past the block's end or behind a change of what is loaded counts as none; any other passes the definition's three tests.
 use Rattle.values.specs.Tables.{at}
 use mathlib.Core.Path.{ap, _∙_}
 use Rattle.inline.proofs.Searching.{nowhere-before, nowhere-past, nowhere-changed, at-reader}

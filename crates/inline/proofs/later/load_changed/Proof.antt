@@ -1,3 +1,4 @@
+-- An expression that does not load minds no change; for one that loads, what decides is whether a statement between changes memory.
 use Rattle.inline.proofs.Returns.{loads-not, loads-so}
 use borrow.Author.Needs.{needs}
 use Rattle.inline.proofs.later.load_changed.Statement.{statement}

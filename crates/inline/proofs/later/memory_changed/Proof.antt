@@ -1,3 +1,4 @@
+-- No statement before i changes memory, so the question from i on is the whole one; one that changes it, or the end, settles it.
 use mathlib.Core.Path.{_≡_, refl, sym, _∙_}
 use borrow.Author.Needs.{needs}
 use Prim.Native.Nat.{_-_, _≤_}

@@ -1,3 +1,4 @@
+-- A dead one has no line; with a condition its lines are the conditional's, without one the plain branch's, as its record says.
 use Rattle.jumps.proofs.Branching.{branch-dead, branch-if, branch-plain}
 use borrow.Author.Needs.{needs}
 use Rattle.jumps.proofs.branch.branch.Statement.{statement}

@@ -1,3 +1,4 @@
+-- Its own target where the field says it has one, otherwise the taken edge of the block's record.
 use Rattle.jumps.proofs.Branching.{goal-own, goal-taken}
 use borrow.Author.Needs.{needs}
 use Rattle.jumps.proofs.branch.goal.Statement.{statement}

@@ -1,3 +1,4 @@
+-- An address where a block starts is a jump to that block; any other leaves the function.
 use Rattle.jumps.proofs.Branching.{jump-block, jump-out}
 use borrow.Author.Needs.{needs}
 use Rattle.jumps.proofs.branch.jump_to.Statement.{statement}

@@ -1,3 +1,4 @@
+-- With a goal it jumps there, its first uses as arguments, a run that fits 32 bits; without one it is a computed goto.
 use Rattle.jumps.proofs.Branching.{args-fit, plain-goes, plain-computed}
 use borrow.Author.Needs.{needs}
 use Rattle.jumps.proofs.branch.plain_branch.Statement.{statement}

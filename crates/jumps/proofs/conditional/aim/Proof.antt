@@ -1,3 +1,4 @@
+-- The taken edge of the block's record, else the branch's own target, else 0: each return is one case of the definition's choice.
 use Rattle.jumps.proofs.Testing.{aim-taken, aim-own, aim-none}
 use borrow.Author.Needs.{needs}
 use Rattle.jumps.proofs.conditional.aim.Statement.{statement}

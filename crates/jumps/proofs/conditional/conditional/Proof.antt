@@ -1,3 +1,4 @@
+-- The line of the test, then that of the fall if there is one: the two runs of lines in order are the branch's.
 use Rattle.jumps.proofs.Testing.{if-lines}
 use borrow.Author.Needs.{needs}
 use Rattle.jumps.proofs.conditional.conditional.Statement.{statement}

@@ -1,3 +1,4 @@
+-- No fall, or a fall into the next block, gives no line; any other gives the goto to the name of where the block falls.
 use borrow.Author.Tests.{not-true, not-false}
 use Rattle.jumps.proofs.Testing.{fall-none, fall-next, fall-put}
 use borrow.Author.Needs.{needs}

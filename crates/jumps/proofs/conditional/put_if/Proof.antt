@@ -1,3 +1,4 @@
+-- The keyword and a bracket, then what is tested: the room after each call is the one before it with that piece.
 use Rattle.jumps.proofs.Testing.{if-put}
 use borrow.Author.Needs.{needs}
 use Rattle.jumps.proofs.conditional.put_if.Statement.{statement}

@@ -1,3 +1,4 @@
+-- The if with what it tests, a bracket, and the goto to the name of where it aims: the pieces in order are the test's tokens.
 use Rattle.jumps.proofs.Testing.{test-put}
 use borrow.Author.Needs.{needs}
 use Rattle.jumps.proofs.conditional.put_test.Statement.{statement}

@@ -1,3 +1,4 @@
+-- What set the block's flags, with the code's text, makes the definition's condition, rendered behind the last statement.
 use Rattle.jumps.proofs.Testing.{tested-put}
 use borrow.Author.Needs.{needs}
 use Rattle.jumps.proofs.conditional.put_tested.Statement.{statement}

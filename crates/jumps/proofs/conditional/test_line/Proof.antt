@@ -1,3 +1,4 @@
+-- The tokens of the test are put, and their line ends at the statement's address.
 use Rattle.gotos.proofs.Lines.{stmt-put}
 use borrow.Author.Needs.{needs}
 use Rattle.jumps.proofs.conditional.test_line.Statement.{statement}

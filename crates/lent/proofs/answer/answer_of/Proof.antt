@@ -1,3 +1,4 @@
+-- By what structuring answers: too deep is refusal 9 and a listing its counts, the two cases of the definition.
 use borrow.Author.Needs.{needs}
 use Rattle.lent.proofs.Answering.{deep-answer, listed-answer}
 use Rattle.lent.proofs.answer.answer_of.Statement.{statement}

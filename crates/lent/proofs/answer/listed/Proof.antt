@@ -1,3 +1,4 @@
+-- The answer is 0 and the six counts, field by field as the definition has them.
 use mathlib.Core.Path.{refl}
 use Rattle.lent.specs.Answers.{answerOf}
 use Rattle.lent.proofs.answer.listed.Statement.{statement}

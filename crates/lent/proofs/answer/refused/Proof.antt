@@ -1,3 +1,4 @@
+-- The answer is the number with every count 0, as the definition has it.
 use mathlib.Core.Path.{refl}
 use Rattle.lent.specs.Answers.{refusedWith}
 use Rattle.lent.proofs.answer.refused.Statement.{statement}

@@ -1,3 +1,4 @@
+-- Where either test fails the conjunction does, and the answer is 1; where both hold it is the file's own number.
 use Rattle.lent.proofs.Refusing.{unready, unfit, neither}
 use Rattle.lent.proofs.lengths.first_refusal.Statement.{statement}
 use Rattle.lent.proofs.lengths.first_refusal.Tie as tie

@@ -1,3 +1,4 @@
+-- Each length is compared with what the edition has the caller lend; the first that differs makes the conjunction false, the last decides it.
 use mathlib.Core.Path.{refl}
 use borrow.Author.Tests.{eq-eqb, ne-eqb}
 use Rattle.definition.specs.Edition.{edition1}

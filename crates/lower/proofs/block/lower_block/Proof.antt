@@ -1,3 +1,4 @@
+-- The label, the statements up to where the next block's begin, the closing goto: three runs of lines in order are the block's.
 use native.Mathlib.Omega.{arith}
 use mathlib.Core.Path.{_∙_}
 use Rattle.lower.proofs.Standing.{end-is, end-inside, end-small, end-most, set-here, next-stands}

@@ -1,3 +1,4 @@
+-- The lines from statement i on are left, with the items, waiting pushes and count of set registers as the definition has them at i.
 use borrow.Author.Needs.{needs}
 use native.Mathlib.Omega.{arith}
 use mathlib.Core.Path.{_≡_, refl, _∙_}

@@ -1,3 +1,4 @@
+-- In a shaped file the case of the record is the statement's kind: six kinds have the lines of their callees, and Flags have none.
 use Rattle.statements.specs.Statement.{kindNumber}
 use Rattle.lower.proofs.Sorted.{kind-is, flags-none, ends-there, inside, here-at, call-at, branch-at}
 use borrow.Author.Needs.{needs}

@@ -1,3 +1,4 @@
+-- Each table has n numbers, so its first n come back as zeros before the rest, which is untouched; the labels are emptied whole.
 use mathlib.Core.Path.{sym}
 use lib.Seq.{length-take-le, length-front}
 use Rattle.lowered.proofs.Clearing.{front-gone}

@@ -1,3 +1,4 @@
+-- A refusal leaves nothing filled; on 0 it is the total of the file's places: the definition's two cases.
 use Rattle.lowered.proofs.Clearing.{none-filled, all-filled}
 use Rattle.lowered.proofs.emptying.filled.Statement.{statement}
 use Rattle.lowered.proofs.emptying.filled.Tie as tie

@@ -1,3 +1,4 @@
+-- A refusal leaves the zeros that were given; else lowering writes: a sheet that is full is emptied and answers 8, any other holds the lines.
 use mathlib.Core.Path.{_∙_}
 use Rattle.lowered.proofs.Writing.{refused, emptied, listed}
 use Rattle.lowered.proofs.passed.lower_passed.Statement.{statement}

@@ -1,3 +1,4 @@
+-- The address read is the statement's own, so the line that ends there ends where the contract says.
 use Rattle.lowering.proofs.Lines.{ends-at}
 use borrow.Author.Needs.{needs}
 use Rattle.lowering.proofs.line.end_stmt.Statement.{statement}

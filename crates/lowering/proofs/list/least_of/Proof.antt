@@ -1,3 +1,4 @@
+-- Where a is below b the lesser is a, otherwise b, as the definition's test has it.
 use Rattle.lowering.proofs.Commas.{least-left, least-right}
 use Rattle.lowering.proofs.list.least_of.Statement.{statement}
 use Rattle.lowering.proofs.list.least_of.Tie as tie

@@ -1,3 +1,4 @@
+-- The comma, then the expression, which rendering writes as lowering does since behind the last statement every value in place is open.
 use Rattle.lowering.proofs.Commas.{put-arg}
 use borrow.Author.Needs.{needs}
 use Rattle.lowering.proofs.list.put_arg.Statement.{statement}

@@ -1,3 +1,4 @@
+-- Behind another expression the one token `, ` is put, before the first nothing: the two cases of the definition.
 use Rattle.lowering.proofs.Commas.{comma-put, comma-none}
 use borrow.Author.Needs.{needs}
 use Rattle.lowering.proofs.list.put_comma.Statement.{statement}

@@ -1,3 +1,4 @@
+-- The items from k on are left to write, behind a comma unless k is 0; each turn writes the first of them, and at the end none is left.
 use Rattle.lowering.proofs.Commas.{items-start, items-turn, items-end}
 use Rattle.lowering.specs.Commas.{argsOf, listed}
 use Rattle.room.specs.Room.{roomOf, emitAll, seen}

@@ -1,3 +1,4 @@
+-- No block before b begins at the address, so the search from b on answers as the whole one does; a block that does, or the end, settles it.
 use borrow.Author.Needs.{needs}
 use native.Mathlib.Omega.{arith}
 use Prim.Native.Nat.{_-_}

@@ -1,3 +1,4 @@
+-- There is a block behind b exactly if b + 1 is below the number of blocks: then its start decides, and otherwise no address is next.
 use native.Mathlib.Omega.{arith}
 use Rattle.definition.specs.Edition.{blocks}
 use Rattle.records.proofs.Items.{size-small}

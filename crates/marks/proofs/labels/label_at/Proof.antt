@@ -1,3 +1,4 @@
+-- The search answers 1 more than the block's number: above 0 that block is marked, and at 0 there is none and the table stays.
 use Rattle.marks.proofs.Finding.{label-here, label-none}
 use borrow.Author.Needs.{needs}
 use Rattle.marks.proofs.labels.label_at.Statement.{statement}

@@ -1,3 +1,4 @@
+-- The edges of the blocks before b are marked and the rest is left to visit; a block's taken edge, then its fall, are its edges.
 use borrow.Author.Needs.{needs}
 use native.Mathlib.Omega.{arith}
 use mathlib.Core.Path.{_≡_, refl, _∙_}

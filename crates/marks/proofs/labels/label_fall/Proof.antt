@@ -1,3 +1,4 @@
+-- A block that does not fall, or falls into the next, has no address to mark; any other marks the one that it falls to.
 use Rattle.marks.proofs.Labelling.{fall-none, fall-next, fall-there}
 use borrow.Author.Needs.{needs}
 use Rattle.marks.proofs.labels.label_fall.Statement.{statement}

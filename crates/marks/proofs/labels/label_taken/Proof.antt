@@ -1,3 +1,4 @@
+-- The record says whether the block has a taken edge: if so its one address is marked, and if not there is none to mark.
 use Rattle.marks.proofs.Labelling.{taken-there, taken-none}
 use borrow.Author.Needs.{needs}
 use Rattle.marks.proofs.labels.label_taken.Statement.{statement}

@@ -1,3 +1,4 @@
+-- A statement that is no branch, or a branch without a target, has no address to mark; a branch with one marks it.
 use Rattle.marks.proofs.Labelling.{target-other, target-none, target-there}
 use borrow.Author.Needs.{needs}
 use Rattle.marks.proofs.labels.label_target.Statement.{statement}

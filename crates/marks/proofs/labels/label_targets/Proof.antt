@@ -1,3 +1,4 @@
+-- The targets of the statements before i are marked and the rest is left to visit; behind the last statement nothing is left.
 use borrow.Author.Needs.{needs}
 use native.Mathlib.Omega.{arith}
 use mathlib.Core.Path.{_≡_, refl, _∙_}

@@ -1,3 +1,4 @@
+-- Edges, then targets, are all the definition's jumps; no two blocks begin alike, so those marked are the ones that a jump goes to.
 use Rattle.marks.proofs.Jumping.{labels-are}
 use borrow.Author.Needs.{needs}
 use Rattle.marks.proofs.labels.labels.Statement.{statement}

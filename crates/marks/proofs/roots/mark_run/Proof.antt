@@ -1,3 +1,4 @@
+-- The nodes before j have marked the roots of what they read and those from j up to b are left; a node's place gives the value's number.
 use borrow.Author.Needs.{needs}
 use native.Mathlib.Omega.{arith}
 use mathlib.Core.Path.{_≡_, refl, _∙_}

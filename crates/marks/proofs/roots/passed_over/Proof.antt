@@ -1,3 +1,4 @@
+-- A dead statement is passed over whatever it is; a live one exactly if it is a save.
 use Rattle.marks.proofs.Saving.{over-dead, over-save}
 use borrow.Author.Needs.{needs}
 use Rattle.marks.proofs.roots.passed_over.Statement.{statement}

@@ -1,3 +1,4 @@
+-- The statements before i have marked what they read and the rest is left; at the end, from zeros on, the roots of what is read are marked.
 use borrow.Author.Needs.{needs}
 use native.Mathlib.Omega.{arith}
 use mathlib.Core.Path.{_≡_, refl, _∙_}

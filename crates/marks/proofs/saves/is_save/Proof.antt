@@ -1,3 +1,4 @@
+-- Only a Store of a callee-saved register's entry value may be a save, and it is one exactly if its address has a stack offset.
 use Rattle.marks.proofs.Saving.{save-other, save-none, save-there}
 use borrow.Author.Needs.{needs}
 use Rattle.marks.proofs.saves.is_save.Statement.{statement}

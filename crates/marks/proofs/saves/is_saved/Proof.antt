@@ -1,3 +1,4 @@
+-- A number past the expressions, a node that is no Use and a version other than 0 say no; for any other the register decides.
 use Rattle.marks.proofs.Saving.{saved-past, saved-other, saved-later, saved-is}
 use borrow.Author.Needs.{needs}
 use Rattle.marks.proofs.saves.is_saved.Statement.{statement}

@@ -1,3 +1,4 @@
+-- No argument before i is RSP; one that is makes the test false, and to be among them is to equal one of them.
 use Prim.Native.Nat.{_≤_, _-_}
 use mathlib.Core.Bool.{true}
 use mathlib.Core.Path.{_≡_, refl, sym, _∙_}

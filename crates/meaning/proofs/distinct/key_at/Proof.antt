@@ -1,3 +1,4 @@
+-- By the choice: an argument's register or the first address of a block, read as the definition reads it.
 use borrow.Author.Needs.{needs}
 use Rattle.meaning.specs.Choice.{keyAt}
 use Rattle.meaning.proofs.Choice.{of-kind}

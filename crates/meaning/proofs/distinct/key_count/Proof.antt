@@ -1,3 +1,4 @@
+-- Arguments are as many as their section has, starts as many as there are blocks: the definition's two cases.
 use borrow.Author.Needs.{needs}
 use Rattle.meaning.proofs.distinct.key_count.Statement.{statement}
 use Rattle.meaning.proofs.distinct.key_count.Tie as tie

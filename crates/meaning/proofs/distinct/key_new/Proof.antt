@@ -1,3 +1,4 @@
+-- Key i differs from the first j keys; one that is equal makes the test false, and at the end j is i.
 use Prim.Native.Nat.{_≤_, _-_}
 use mathlib.Core.Bool.{true}
 use mathlib.Core.Path.{_≡_, refl}

@@ -1,3 +1,4 @@
+-- Each of the first i keys is none of those before it; that this holds of all n says that no key stands twice.
 use Prim.Native.Nat.{_≤_, _-_}
 use mathlib.Core.Bool.{true}
 use mathlib.Core.Path.{_≡_}

@@ -1,3 +1,4 @@
+-- The addresses of the name and of the next are read as the definition reads them, and compared.
 use mathlib.Core.Path.{ap₂}
 use lib.Dec.{ltb}
 use borrow.Author.Needs.{needs}

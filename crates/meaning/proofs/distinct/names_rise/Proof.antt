@@ -1,3 +1,4 @@
+-- The first i names rise to the next, up to the last but one; without names there is nothing to compare.
 use Prim.Native.Nat.{_≤_, _-_}
 use mathlib.Core.Bool.{true}
 use mathlib.Core.Path.{_≡_, refl, sym, _∙_}

@@ -1,3 +1,4 @@
+-- Where the bits are 32 the first of the two tests holds; else it fails, and 64 decides.
 use mathlib.Core.Path.{refl}
 use borrow.Author.Needs.{needs}
 use Rattle.meaning.proofs.Refusing.{bits-32, bits-else}

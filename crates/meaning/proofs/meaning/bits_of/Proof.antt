@@ -1,3 +1,4 @@
+-- The bits are by definition the word at byte 4.
 use borrow.Author.Needs.{needs}
 use Rattle.meaning.proofs.Refusing.{bits-are}
 use Rattle.meaning.proofs.meaning.bits_of.Statement.{statement}

@@ -1,3 +1,4 @@
+-- What is no Call, or has a target that opens no bracket, passes; a computed target passes where there are arguments.
 use mathlib.Core.Path.{refl}
 use borrow.Author.Tests.{not-true, not-false}
 use borrow.Author.Needs.{needs}

@@ -1,3 +1,4 @@
+-- The first i statements have their targets; one that has not makes the test false of all, and at the end i is their count.
 use Prim.Native.Nat.{_≤_, _-_}
 use mathlib.Core.Bool.{true}
 use mathlib.Core.Path.{_≡_}

@@ -1,3 +1,4 @@
+-- An empty text opens nothing; a longer one begins with the bracket just where the file does, at the text's offset and `start`.
 use borrow.Author.Needs.{needs}
 use Rattle.meaning.proofs.Refusing.{opens-not, opens-at}
 use Rattle.meaning.proofs.meaning.opens.Statement.{statement}

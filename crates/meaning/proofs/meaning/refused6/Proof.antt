@@ -1,3 +1,4 @@
+-- Where the rest fails, the file is refused and the scratch is still zeros; else what is defined once decides, and leaves zeros.
 use borrow.Author.Needs.{needs}
 use Rattle.meaning.proofs.Refusing.{refuse, last}
 use Rattle.meaning.proofs.meaning.refused6.Statement.{statement}

@@ -1,3 +1,4 @@
+-- Seven tests, each made where those before hold: one that fails makes the answer false, and the targets of calls decide last.
 use borrow.Author.Needs.{needs}
 use Rattle.meaning.proofs.Refusing.{rest-is}
 use Rattle.records.proofs.Also.{also-stop, also-go}

@@ -1,3 +1,4 @@
+-- Nothing names no register; of one value, its own register is what the list is tested for.
 use borrow.Author.Needs.{needs}
 use Rattle.meaning.specs.Choice.{named}
 use Rattle.defined.proofs.Tested.{none-all, one-all}

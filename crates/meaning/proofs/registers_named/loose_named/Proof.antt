@@ -1,3 +1,4 @@
+-- What Calls and Others before statement i define names registers, and `at` is where the items of i begin.
 use Prim.Native.Nat.{_≤_, _-_}
 use mathlib.Core.Bool.{true}
 use mathlib.Core.Path.{_≡_, sym, _∙_}

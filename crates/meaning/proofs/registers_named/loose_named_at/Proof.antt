@@ -1,3 +1,4 @@
+-- What a Call returns stands before the values among the items: where it fails all fails, else the items decide.
 use mathlib.Core.Path.{ap, _∙_}
 use native.Mathlib.Omega.{arith}
 use borrow.Author.Needs.{needs}

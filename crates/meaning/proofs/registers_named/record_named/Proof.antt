@@ -1,3 +1,4 @@
+-- By the choice: an argument, a phi, what an Assign defines, or a Use is read, and its register tested.
 use mathlib.Core.Path.{ap, _∙_}
 use Rattle.definition.specs.Lists.{all}
 use Rattle.definition.specs.Meaning.{isRegister}

@@ -1,3 +1,4 @@
+-- The first i records name registers; one that does not makes the test false of all n, and at the end i is n.
 use Prim.Native.Nat.{_≤_, _-_}
 use mathlib.Core.Bool.{true}
 use mathlib.Core.Path.{_≡_, refl}

@@ -1,3 +1,4 @@
+-- Arguments, phis and Assigns, Calls and Others, Uses: each is tested where those before hold, and the Uses decide last.
 use mathlib.Core.Path.{refl, _∙_}
 use Rattle.meaning.proofs.Choice.{all-read}
 use Rattle.meaning.proofs.RegistersNamed.{args-named, registers-are}

@@ -1,3 +1,4 @@
+-- The list is that of the phis, then that of the Assigns: where the phis fail all fails, else the Assigns decide.
 use Rattle.meaning.specs.Choice.{named}
 use Rattle.meaning.proofs.Choice.{all-read}
 use Rattle.meaning.proofs.RegistersNamed.{phis-named, assigns-named}

@@ -1,3 +1,4 @@
+-- An expression that is no Use passes; of a Use word 1 is the register that is tested.
 use borrow.Author.Needs.{needs}
 use Rattle.meaning.proofs.RegistersNamed.{use-not, use-is}
 use Rattle.meaning.proofs.registers_named.use_named.Statement.{statement}

@@ -1,3 +1,4 @@
+-- The statements before i are ticked and those from i on are left; at the end the ticks, from zeros on, are what is really read at entry.
 use Rattle.names.proofs.Entered.{entry-table}
 use Rattle.names.proofs.Ticking.{stmts-start, stmts-turn, stmts-end}
 use Rattle.names.specs.Spots.{entrySpots, ticked}

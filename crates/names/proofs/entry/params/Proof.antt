@@ -1,3 +1,4 @@
+-- No argument register above the first i is read, so the count among these is that of all; one that is read ends it, or 0, to which i falls.
 use Rattle.names.proofs.Entered.{params-count}
 use Rattle.names.proofs.Params.{isRead, last-found, last-turn, last-none}
 use Rattle.names.specs.Spots.{upTo}

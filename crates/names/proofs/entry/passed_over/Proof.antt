@@ -1,3 +1,4 @@
+-- The contract's three tests in its order: being dead settles it, then being a call, and what is left is whether it is a branch.
 use Rattle.names.proofs.Ticking.{over-dead, over-call, over-branch}
 use borrow.Author.Needs.{needs}
 use Rattle.names.proofs.entry.passed_over.Statement.{statement}

@@ -1,3 +1,4 @@
+-- A statement passed over ticks nothing; any other ticks the nodes that `order` has from its start up to the next one's, which are its reads.
 use Rattle.names.proofs.Reading.{uses-run}
 use Rattle.names.proofs.Ticking.{tick-run, tick-none, tick-some}
 use Rattle.names.specs.Spots.{ticked}

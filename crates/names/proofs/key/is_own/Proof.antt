@@ -1,3 +1,4 @@
+-- A version other than 0 makes it false; at version 0 it comes down to whether the class's root is the value itself.
 use Rattle.names.proofs.Meeting.{own-not, own-same}
 use Rattle.names.proofs.key.is_own.Statement.{statement}
 use Rattle.names.proofs.key.is_own.Tie as tie

@@ -1,3 +1,4 @@
+-- The definition's four cases: the class has a code, is met as its own version 0, gets the next local, or the codes have run out.
 use Rattle.names.proofs.Meeting.{met-again, met-own, met-new, met-full}
 use borrow.Author.Needs.{needs}
 use Rattle.names.proofs.key.meet.Statement.{statement}

@@ -1,3 +1,4 @@
+-- A value of RSP, one named already and one written in place leave all as it is, by the definition's three tests; any other is met.
 use Rattle.names.proofs.Meeting.{key-rsp, key-named, key-placed, key-met}
 use borrow.Author.Needs.{needs}
 use Rattle.names.proofs.key.name_key.Statement.{statement}

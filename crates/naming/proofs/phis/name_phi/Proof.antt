@@ -1,3 +1,4 @@
+-- A phi of RSP and a dead one name nothing; any other names itself, then its inputs, which begin where the contract says.
 use Rattle.naming.specs.Walk.{runSpot}
 use native.Mathlib.Omega.{arith}
 use mathlib.Core.Path.{ap}

@@ -1,3 +1,4 @@
+-- The phis before i are named and `input` is where the inputs of phi i begin; at b no phi is left and the walk stands there.
 use borrow.Author.Needs.{needs}
 use native.Mathlib.Omega.{arith}
 use mathlib.Core.Path.{_≡_, refl, _∙_}

@@ -1,3 +1,4 @@
+-- By the kind of run: an input has its phi's register, an item and a node their own, and each section's places begin where the table says.
 use Rattle.naming.proofs.Walking.{input-spot, item-spot, use-spot}
 use Rattle.naming.proofs.Small.{inputs-small, items-small, exprs-small}
 use Rattle.values.specs.declared.places.Places.{Places}

@@ -1,3 +1,4 @@
+-- The mentions before k are named and those from k up to b are left; each turn names one more.
 use borrow.Author.Needs.{needs}
 use Rattle.naming.proofs.Walking.{each-turn, each-end}
 use Rattle.naming.specs.Walk.{walked, runSpot}

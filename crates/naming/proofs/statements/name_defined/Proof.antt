@@ -1,3 +1,4 @@
+-- Where nothing is defined there is no spot and all stays; where one value is, naming it is the walk over its one spot.
 use Rattle.naming.proofs.Walking.{defined-none, defined-one}
 use borrow.Author.Needs.{needs}
 use Rattle.naming.proofs.statements.name_defined.Statement.{statement}

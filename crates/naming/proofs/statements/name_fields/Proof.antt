@@ -1,3 +1,4 @@
+-- What is assigned, then what a call returns, each at the statement's place: two runs, one behind the other, are the walk over both.
 use Rattle.naming.proofs.Small.{stmts-small}
 use Rattle.naming.proofs.Walking.{fields-two}
 use Prim.Native.Nat.{_+_}

@@ -1,3 +1,4 @@
+-- A dead statement names nothing; a live one its fields, its value items, then its reads: three runs that make up its walk.
 use native.Mathlib.Omega.{arith}
 use mathlib.Core.Path.{ap, _∙_}
 use Rattle.definition.specs.Edition.{statements}

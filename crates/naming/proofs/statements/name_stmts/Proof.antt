@@ -1,3 +1,4 @@
+-- The statements before v's are named and v stands where its items begin; each turn moves it one on, and at b none is left.
 use native.Mathlib.Omega.{arith}
 use mathlib.Core.Path.{_≡_, refl, ap, _∙_}
 use Prim.Native.Nat.{ℕ, _-_, _≤_}

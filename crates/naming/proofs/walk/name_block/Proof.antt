@@ -1,3 +1,4 @@
+-- The walk over the phis, then that over the statements, are the block's; both end where the next block's parts begin, as sums of counts.
 use Rattle.naming.proofs.Standing.{phis-inside, stmts-inside, stands-here, block-went}
 use Rattle.records.proofs.Items.{size-small}
 use Rattle.definition.specs.Edition.{phis, statements}

@@ -1,3 +1,4 @@
+-- The blocks before b are named and the walk stands where the phis and statements of b begin; behind the last block no spot is left.
 use Rattle.naming.proofs.Standing.{stands-first, blocks-start}
 use Rattle.naming.proofs.Walking.{runs-turn, runs-end}
 use Rattle.naming.specs.Given.{standing}

@@ -1,3 +1,4 @@
+-- One piece is put, and `}` is all that the line has.
 use Rattle.definition.specs.Negate.{closeTokens}
 use Rattle.room.proofs.Laws.{next, done}
 use borrow.Author.Needs.{needs}

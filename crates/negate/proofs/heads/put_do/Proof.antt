@@ -1,3 +1,4 @@
+-- The two pieces, one put behind the other, are the two of `do {`.
 use Rattle.definition.specs.Negate.{doTokens}
 use Rattle.room.proofs.Laws.{next, done}
 use borrow.Author.Needs.{needs}

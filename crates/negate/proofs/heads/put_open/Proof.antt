@@ -1,3 +1,4 @@
+-- The signs and the negated condition compose, and merging changes nothing seen; as the line's ends rise, the clip is one to be negated.
 use Rattle.room.proofs.Laws.{next, more, done, merged, pieces-are}
 use Rattle.definition.specs.Negate.{negate, openTokens}
 use mathlib.Core.Path.{sym, ap, _∙_}

@@ -1,3 +1,4 @@
+-- Three signs, the condition and `);` compose to the line, and merging the pieces changes nothing that is seen.
 use Rattle.room.proofs.Laws.{next, more, done, merged}
 use Rattle.definition.specs.Negate.{whileTokens}
 use mathlib.Core.Path.{sym, _∙_}

@@ -1,3 +1,4 @@
+-- By the three tests in turn, the count against 1, `&&`, `||`: the first that fails makes the conjunction false, the last decides it.
 use Rattle.sheet.specs.Ranges.{between}
 use Rattle.definition.specs.Texts.{txt, contains}
 use Rattle.negate.proofs.Negating.{test-count, test-first, test-last}

@@ -1,3 +1,4 @@
+-- Flipping neither empties a text nor fills an empty one, so the range as it was tells whether the flipped token is left out.
 use Rattle.negate.proofs.Negating.{flip-nothing, flip-some}
 use borrow.Author.Needs.{needs}
 use Rattle.negate.proofs.negation.put_flip.Statement.{statement}

@@ -1,3 +1,4 @@
+-- The hits are the definition's marks, and the clip's range is its text, so the same test decides; the one marked token is the one flipped.
 use mathlib.Core.Path.{sym}
 use Rattle.room.proofs.Laws.{pieces-are}
 use Rattle.negate.proofs.Marks.{negate-flips, negate-wraps}

@@ -1,3 +1,4 @@
+-- The pieces `!(`, the condition's tokens and `)`, put one behind the other, are the wrapped condition.
 use Rattle.room.proofs.Laws.{next, more, done}
 use borrow.Author.Needs.{needs}
 use Rattle.negate.proofs.negation.put_wrapped.Statement.{statement}

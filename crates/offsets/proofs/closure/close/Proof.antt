@@ -1,3 +1,4 @@
+-- The table follows the definition's rounds; one that changes something leaves a 0 less, and after one that does not the closure is there.
 use Rattle.sums.proofs.Naming.{some-edition}
 use Rattle.offsets.proofs.Closed.{Closes, close-start, close-turn, close-end, close-less}
 use Rattle.offsets.specs.Ran.{zeros}

@@ -1,3 +1,4 @@
+-- The key's first place is i more than its first place in what is left from i on: it is i at a hit and at the end.
 use Rattle.offsets.proofs.Beginning.{first-start, first-hit, first-turn, first-end}
 use Rattle.values.specs.Tables.{firstOf}
 use lib.ListN.{length, drop}

@@ -1,3 +1,4 @@
+-- At the start the table knows RSP at entry alone; closed for RSP's own definitions, then for the others, it is the definition's.
 use Rattle.offsets.proofs.Closed.{offsets-are}
 use Rattle.offsets.proofs.Beginning.{zeros-long, begun}
 use Rattle.sums.proofs.Naming.{grounded}

@@ -1,3 +1,4 @@
+-- A block's definitions are its phis' and then its statements', so that the two runs make one; the counts lead to the next block.
 use Rattle.offsets.proofs.Walking.{walk-phis, walk-stmts, walk-input, before-next}
 use Rattle.offsets.proofs.Running.{block-ran}
 use Rattle.records.proofs.Items.{size-small}

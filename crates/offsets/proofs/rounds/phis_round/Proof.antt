@@ -1,3 +1,4 @@
+-- The first i phis have run, and the input carried along is the next one's first; a step runs that phi behind them.
 use Rattle.offsets.proofs.Walking.{within, inputs-small, inputs-start, inputs-turn, inputs-end}
 use Rattle.offsets.proofs.Running.{phis-start, phis-turn, phis-end}
 use Rattle.offsets.specs.Ran.{Ran}

@@ -1,3 +1,4 @@
+-- The definitions of the blocks below b have run and the walk stands before block b; at the end those of all blocks have.
 use Rattle.offsets.proofs.Walking.{before-start}
 use Rattle.offsets.proofs.Running.{blocks-start, blocks-turn, blocks-end}
 use Rattle.sums.proofs.Naming.{under}

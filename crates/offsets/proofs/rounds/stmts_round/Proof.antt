@@ -1,3 +1,4 @@
+-- The definitions of the first i statements have run; a step runs the next one's behind them, and a change in either is a change.
 use Rattle.offsets.proofs.Walking.{within}
 use Rattle.offsets.proofs.Running.{stmts-start, stmts-turn, stmts-end}
 use Rattle.offsets.specs.Ran.{Ran}

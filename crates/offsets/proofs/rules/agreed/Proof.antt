@@ -1,3 +1,4 @@
+-- None agree on nothing; else what is agreed is whether those from i on all have the first one's, and one that has not makes it 0.
 use Rattle.offsets.proofs.Agreeing.{agree-none, agree-start, agree-turn, agree-off, agree-end}
 use Rattle.sums.specs.Address.{valueAt}
 use Rattle.offsets.specs.Agreed.{agreeFrom, agreedBy}

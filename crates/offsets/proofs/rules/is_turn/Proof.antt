@@ -1,3 +1,4 @@
+-- In RSP's own closure the register must be RSP, in the other closure it must not: one test for each.
 use Rattle.offsets.proofs.Stepping.{turn-own, turn-other}
 use Rattle.offsets.proofs.rules.is_turn.Statement.{statement}
 use Rattle.offsets.proofs.rules.is_turn.Tie as tie

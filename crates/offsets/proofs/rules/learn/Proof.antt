@@ -1,3 +1,4 @@
+-- An entry that is known stays, and an x of 0 adds nothing; else the entry was 0 and becomes x, and that is a change.
 use Rattle.offsets.proofs.Stepping.{learnt-old, learnt-none, learnt-new}
 use borrow.Author.Needs.{needs}
 use Rattle.offsets.proofs.rules.learn.Statement.{statement}

@@ -1,3 +1,4 @@
+-- A phi that is not this closure's adds nothing; any other adds at its number what its inputs agree on, the definition's rule.
 use Rattle.offsets.proofs.Stepping.{phi-other, phi-ran}
 use Rattle.offsets.proofs.Agreeing.{phi-inside, inputs-inside}
 use borrow.Author.Tests.{not-true, not-false}

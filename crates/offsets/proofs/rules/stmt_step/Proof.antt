@@ -1,3 +1,4 @@
+-- A statement that is no Assign, or not this closure's, adds nothing; any other adds its expression's offset, the definition's rule.
 use Rattle.offsets.proofs.Stepping.{stmt-none, assign-other, assign-ran}
 use Rattle.sums.proofs.Naming.{stmt-inside}
 use borrow.Author.Tests.{not-true, not-false}

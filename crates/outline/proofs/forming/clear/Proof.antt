@@ -1,3 +1,4 @@
+-- The places from a up to k are zeros, those from k up to b are left to clear; at the end the loop's function is the definition's.
 use Rattle.outline.proofs.Moves.{changeF, changed-all, change-turn, change-end}
 use Rattle.outline.specs.Forming.{nought}
 use lib.ListN.{length, length-set}

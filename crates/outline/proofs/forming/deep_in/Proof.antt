@@ -1,3 +1,4 @@
+-- No row passed is too deep, so the question is the same of the rows from k on; a hit or the end answers it.
 use Rattle.outline.proofs.Along.{some-none, some-hit, some-on}
 use Rattle.outline.specs.Forming.{deepIn}
 use Rattle.outline.specs.Tests.{someRow, tooDeep}

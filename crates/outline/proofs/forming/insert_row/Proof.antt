@@ -1,3 +1,4 @@
+-- The rows from k up to n are one place on, those from j up to k are left to move; k falls to j, where v is put.
 use Rattle.outline.proofs.Moves.{shiftF, shifted-all, shift-turn, shift-end}
 use lib.ListN.{length, set, length-set}
 use mathlib.Core.List.{List}

@@ -1,3 +1,4 @@
+-- The rows from a up to k are raised, those from k up to b are left to raise; at the end the loop's function is the definition's.
 use Rattle.outline.proofs.Moves.{changeF, changed-all, change-turn, change-end}
 use Rattle.outline.specs.Forming.{raised}
 use lib.ListN.{length, length-set}

@@ -1,3 +1,4 @@
+-- A kind below 8 and less than 8 more fit the field of four bits, so the sum does not overflow; any other row stays.
 use Rattle.outline.proofs.Moves.{turn-in, turn-top, turn-fits}
 use native.Mathlib.Omega.{arith}
 use borrow.Author.Needs.{needs}

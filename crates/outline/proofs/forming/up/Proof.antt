@@ -1,3 +1,4 @@
+-- An indent below 4095 has room for one more in its field, so the sum does not overflow; a row at the top stays.
 use Rattle.outline.proofs.Moves.{up-in, up-top, up-fits}
 use native.Mathlib.Omega.{arith}
 use borrow.Author.Needs.{needs}

@@ -1,3 +1,4 @@
+-- The indent is the field of 12 bits above the kind, by the definition's division and remainder.
 use Rattle.outline.specs.Rows.{indentOf}
 use mathlib.Core.Path.{refl}
 use Rattle.outline.proofs.rows.indent_of.Statement.{statement}

@@ -1,3 +1,4 @@
+-- A conditional jump is a goto; any other row is one exactly where its kind is that of a plain jump.
 use Rattle.outline.proofs.Verdicts.{goto-cond, goto-jump}
 use mathlib.Core.Path.{refl}
 use borrow.Author.Needs.{needs}

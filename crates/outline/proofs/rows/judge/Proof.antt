@@ -1,3 +1,4 @@
+-- A row at depth d or deeper passes; outside it all but a label just outside ends the scan, and of those the label m is the one sought.
 use Rattle.outline.proofs.Verdicts.{judge-deep, judge-far, judge-other, judge-hit, judge-label}
 use native.Mathlib.Omega.{arith}
 use borrow.Author.Needs.{needs}

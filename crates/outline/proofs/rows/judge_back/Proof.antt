@@ -1,3 +1,4 @@
+-- Outside d all but a label just outside ends the search; at d a conditional jump to m is a back edge; every other row passes.
 use Rattle.outline.proofs.Verdicts.{back-far, back-low, back-label, back-deep, back-other, back-hit, back-name}
 use native.Mathlib.Omega.{arith}
 use borrow.Author.Needs.{needs}

@@ -1,3 +1,4 @@
+-- The kind is the lowest four bits: the remainder by 16, as the definition takes it.
 use Rattle.outline.specs.Rows.{kindOf}
 use mathlib.Core.Path.{refl}
 use Rattle.outline.proofs.rows.kind_of.Statement.{statement}

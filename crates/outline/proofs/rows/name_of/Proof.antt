@@ -1,3 +1,4 @@
+-- The name is the field of 24 bits above the indent, by the definition's division and remainder.
 use Rattle.outline.specs.Rows.{nameOf}
 use mathlib.Core.Path.{refl}
 use Rattle.outline.proofs.rows.name_of.Statement.{statement}

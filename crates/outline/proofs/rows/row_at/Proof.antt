@@ -1,3 +1,4 @@
+-- Inside the slice the row is read; outside the answer is 0, the default of the definition.
 use Rattle.outline.specs.Tests.{at}
 use lib.ListN.{List·getD-eq-default}
 use mathlib.Core.Path.{refl, sym}

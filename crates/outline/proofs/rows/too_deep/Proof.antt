@@ -1,3 +1,4 @@
+-- The kind decides the bound as in the definition: a label's indent is held against 254, any other row's against 255.
 use Rattle.outline.proofs.Verdicts.{deep-label, deep-other}
 use mathlib.Core.Path.{refl}
 use borrow.Author.Needs.{needs}

@@ -1,3 +1,4 @@
+-- A row that is no label is not aimed at; of a label the span at its name decides.
 use Rattle.outline.proofs.SpanLaws.{aimed-other, aimed-label}
 use borrow.Author.Needs.{needs}
 use Rattle.outline.proofs.spans.aimed_out.Statement.{statement}

@@ -1,3 +1,4 @@
+-- An empty span has no row; otherwise a lowest row below a settles it, and else the highest row is held against b.
 use Rattle.outline.proofs.SpanLaws.{out-none, out-low, out-high}
 use native.Mathlib.Omega.{arith}
 use Rattle.outline.proofs.spans.is_outside.Statement.{statement}

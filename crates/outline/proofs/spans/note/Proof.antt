@@ -1,3 +1,4 @@
+-- Cleared, the table is all zeros, and the rows noted into zeros are the spans anew.
 use Rattle.outline.proofs.SpanLaws.{spans-anew}
 use borrow.Author.Needs.{needs}
 use Rattle.outline.proofs.spans.note.Statement.{statement}

@@ -1,3 +1,4 @@
+-- The rows from i on are left to note into the table as it stands; with none left it is the table asked for.
 use Rattle.outline.proofs.SpanLaws.{note-turn, note-end, note-start}
 use Rattle.outline.specs.Spans.{noteFrom}
 use lib.ListN.{length}

@@ -1,3 +1,4 @@
+-- No label passed is aimed at from outside, so the question is the same of the rows from k on; a hit or the end answers it.
 use Rattle.outline.proofs.Along.{some-none, some-hit, some-on}
 use Rattle.outline.specs.Spans.{reachedIn, aimedOut}
 use Rattle.outline.specs.Tests.{someRow}

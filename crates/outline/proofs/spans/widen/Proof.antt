@@ -1,3 +1,4 @@
+-- A row too high for the field changes nothing; an empty span begins at row i, any other keeps its lowest row, and both end at i.
 use Rattle.outline.proofs.SpanLaws.{wide-out, wide-first, wide-more}
 use native.Mathlib.Omega.{arith}
 use borrow.Author.Needs.{needs}

@@ -1,3 +1,4 @@
+-- With fewer than n rows all are taken, and otherwise the first n are n.
 use Rattle.passes.proofs.Gathering.{count-all, count-some}
 use Rattle.passes.proofs.dropping.count_rows.Statement.{statement}
 use Rattle.passes.proofs.dropping.count_rows.Tie as tie

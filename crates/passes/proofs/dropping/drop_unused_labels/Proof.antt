@@ -1,3 +1,4 @@
+-- Gathered by the spans noted, the kept rows stand in front in order; clearing puts zeros up to the end of the first n rows.
 use Rattle.passes.proofs.Gathering.{count-le, drop-all}
 use native.Mathlib.Omega.{arith}
 use borrow.Author.Needs.{needs}

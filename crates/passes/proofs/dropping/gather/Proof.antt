@@ -1,3 +1,4 @@
+-- The rows from i on are left to gather behind the c kept so far; c is at most i, so there is a place for each row that is kept.
 use Rattle.passes.proofs.Gathering.{place-count, gather-turn, gather-end, gather-start}
 use Rattle.passes.specs.Dropping.{keptRow, gatherFrom}
 use lib.ListN.{length}

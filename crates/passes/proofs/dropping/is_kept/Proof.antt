@@ -1,3 +1,4 @@
+-- A row that is no label is kept; a label is kept exactly where some row aims at it, be it below n or from n on.
 use Rattle.passes.proofs.Gathering.{keep-other, keep-label}
 use borrow.Author.Needs.{needs}
 use Rattle.passes.proofs.dropping.is_kept.Statement.{statement}

@@ -1,3 +1,4 @@
+-- A kept row is written at place c and counted; any other changes neither the rows nor the count.
 use Rattle.passes.proofs.Gathering.{place-yes, place-no}
 use borrow.Author.Needs.{needs}
 use Rattle.passes.proofs.dropping.place.Statement.{statement}

@@ -1,3 +1,4 @@
+-- The rows before j are passed, so the answer is that of the scan from j on: its first verdict of 1 or 2 gives it, and else it is n.
 use Rattle.passes.proofs.Goals.{label-none, label-found, label-ended, label-on}
 use Rattle.passes.specs.Regions.{labelFrom}
 use mathlib.Core.Path.{_≡_, refl, sym, _∙_}

@@ -1,3 +1,4 @@
+-- The head turned, the body raised, the closing brace put in at the head's indent: these changes in order are the if formed.
 use Rattle.outline.proofs.Moves.{indent-small}
 use Rattle.passes.proofs.Forms.{form-if}
 use lib.ListN.{length-set}

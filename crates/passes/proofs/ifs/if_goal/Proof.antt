@@ -1,3 +1,4 @@
+-- No conditional jump, no label found, an empty body, or a body reached from outside gives n; otherwise the label's row.
 use Rattle.passes.proofs.Goals.{if-no, if-none, if-next, if-reached, if-yes}
 use borrow.Author.Needs.{needs}
 use Rattle.passes.proofs.ifs.if_goal.Statement.{statement}

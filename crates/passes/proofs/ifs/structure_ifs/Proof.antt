@@ -1,3 +1,4 @@
+-- The spans noted first are those of the first n rows, and the sweep for ifs from these tables is the pass.
 use Rattle.passes.proofs.Turns.{if-pass}
 use borrow.Author.Needs.{needs}
 use Rattle.passes.proofs.ifs.structure_ifs.Statement.{statement}

@@ -1,3 +1,4 @@
+-- The sweep from row k on is left; a region adds a row only where the slice has room, so the rows are bounded, and k comes nearer the bound.
 use Rattle.passes.proofs.Turns.{sweep-stop, sweep-deep, sweep-on, sweep-start, if-room}
 use Rattle.passes.specs.Sweeps.{ifTried, sweepRows}
 use lib.ListN.{length}

@@ -1,3 +1,4 @@
+-- No goal, a body too deep, or no room for the brace changes nothing; otherwise the goal is behind k, and the if is formed and noted.
 use Rattle.passes.proofs.Turns.{if-try-none, if-try-deep, if-try-full, if-try-formed}
 use Rattle.passes.proofs.Goals.{if-after}
 use native.Mathlib.Omega.{arith}

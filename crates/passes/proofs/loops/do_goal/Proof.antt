@@ -1,3 +1,4 @@
+-- No label, no back edge, another row that aims at the head, or a body reached from outside gives n; otherwise the last back edge.
 use Rattle.passes.proofs.Goals.{do-no, do-none, do-aimed, do-reached, do-yes, back-below}
 use Rattle.outline.proofs.Moves.{indent-small}
 use native.Mathlib.Omega.{arith}

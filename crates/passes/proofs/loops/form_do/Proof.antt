@@ -1,3 +1,4 @@
+-- The head raised and turned, the body raised, the back edge turned: these changes in order are the loop formed.
 use Rattle.passes.proofs.Forms.{form-do}
 use lib.ListN.{length-set}
 use mathlib.Core.Path.{_∙_}

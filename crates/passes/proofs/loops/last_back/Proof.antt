@@ -1,3 +1,4 @@
+-- The answer is the back edge found last, unless the search from j on has a later one; an end, and no rows left, have none.
 use Rattle.passes.proofs.Goals.{unlessLater, back-start, back-none, back-ended, back-on}
 use Rattle.passes.specs.Regions.{backFrom}
 use mathlib.Core.Path.{_≡_, sym, _∙_}

@@ -1,3 +1,4 @@
+-- By whether the verdict is 1: row j then, and otherwise the row found before.
 use borrow.Author.Tests.{eq-eqb, ne-eqb}
 use Rattle.passes.proofs.loops.later.Statement.{statement}
 use Rattle.passes.proofs.loops.later.Tie as tie

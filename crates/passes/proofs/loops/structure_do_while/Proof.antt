@@ -1,3 +1,4 @@
+-- The spans noted first are those of the first n rows, and the sweep for loops from these tables is the pass.
 use Rattle.passes.proofs.Turns.{do-pass}
 use borrow.Author.Needs.{needs}
 use Rattle.passes.proofs.loops.structure_do_while.Statement.{statement}

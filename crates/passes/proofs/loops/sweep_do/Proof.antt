@@ -1,3 +1,4 @@
+-- The sweep from row k on is left; a loop adds no row, so n stays, and there are at most as many regions as rows tried.
 use Rattle.passes.proofs.Turns.{sweep-stop, sweep-deep, sweep-on, sweep-start, do-tells}
 use Rattle.passes.specs.Sweeps.{doTried, sweepRows, keeps}
 use lib.ListN.{length}

@@ -1,3 +1,4 @@
+-- No goal, a body too deep, or a goal past the slice changes nothing; otherwise the goal is behind k, and the loop is formed and noted.
 use Rattle.passes.proofs.Turns.{do-try-none, do-try-deep, do-try-full, do-try-formed}
 use Rattle.passes.proofs.Goals.{do-after}
 use native.Mathlib.Omega.{arith}

@@ -1,3 +1,4 @@
+-- Where the front, or the part behind it, does not fit, nothing is touched; where both do, the two written are one text.
 use mathlib.Core.Path.{refl}
 use native.Mathlib.Omega.{arith}
 use Rattle.definition.specs.Words.{part}

@@ -1,3 +1,4 @@
+-- With a place for the token, the text written to the rest and the number set behind it are the piece; a text or token without room makes it full.
 use Rattle.pieces.proofs.Writing.{emit-not, ready-rest, placeable, leaf-emit}
 use borrow.Author.Needs.{needs}
 use Rattle.pieces.proofs.piece.put_piece.Statement.{statement}

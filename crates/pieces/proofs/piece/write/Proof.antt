@@ -1,3 +1,4 @@
+-- By which piece it is: the writer that is called writes what this piece spells.
 use mathlib.Core.Path.{refl}
 use Rattle.pieces.specs.Spelled.{spelled}
 use Rattle.pieces.proofs.Spelling.{spells}

@@ -1,3 +1,4 @@
+-- By what the text is made of: each writer writes what is spelled there, a parameter and a local being a letter and a decimal.
 use mathlib.Core.Path.{refl}
 use Rattle.definition.specs.Texts.{txt}
 use Rattle.pieces.specs.Spelled.{made}

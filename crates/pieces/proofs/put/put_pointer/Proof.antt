@@ -1,3 +1,4 @@
+-- The definition's pointer is a token of kind 3 whose text is the made one, so the piece that is put is that token.
 use Rattle.definition.specs.Render.{pointer}
 use borrow.Author.Needs.{needs}
 use Rattle.pieces.proofs.put.put_pointer.Statement.{statement}

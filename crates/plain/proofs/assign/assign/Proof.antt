@@ -1,3 +1,4 @@
+-- The tables say of its value whether it is gone or restored, and then the definition has no line; otherwise its tokens end at its address.
 use Rattle.plain.proofs.Assigning.{gone-is, restore-is}
 use Rattle.lowering.proofs.Lines.{left-out, not-out, line-put}
 use Rattle.plain.proofs.Lines.{inside, assign-lines}

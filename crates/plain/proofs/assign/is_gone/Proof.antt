@@ -1,3 +1,4 @@
+-- Dead, RSP's, or written in place: the three tests in turn, of which the first that holds or the last one answers.
 use Rattle.plain.proofs.Assigning.{gone-dead, gone-rsp, gone-placed}
 use borrow.Author.Needs.{needs}
 use Rattle.plain.proofs.assign.is_gone.Statement.{statement}

@@ -1,3 +1,4 @@
+-- A register not callee-saved or a class that is read makes it none; otherwise it is one exactly where it loads from a slot.
 use Rattle.plain.proofs.Assigning.{restore-other, restore-read, restore-load}
 use borrow.Author.Needs.{needs}
 use Rattle.plain.proofs.assign.is_restore.Statement.{statement}

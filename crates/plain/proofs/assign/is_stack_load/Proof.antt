@@ -1,3 +1,4 @@
+-- Past the expressions, no Load, or a child that is not lower: no slot; otherwise the offset of the lower child decides.
 use Rattle.plain.proofs.Loading.{load-past, load-other, load-high, load-low}
 use borrow.Author.Needs.{needs}
 use Rattle.plain.proofs.assign.is_stack_load.Statement.{statement}

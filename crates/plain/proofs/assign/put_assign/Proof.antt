@@ -1,3 +1,4 @@
+-- The table's code at the value's number is that of the variable defined, so its name and ` = E;` behind it are the definition's tokens.
 use Rattle.plain.proofs.Assigning.{assign-put}
 use Rattle.plain.proofs.Searching.{stmts-low}
 use borrow.Author.Needs.{needs}

@@ -1,3 +1,4 @@
+-- Width, register and code are those of the file and of the table at the value's number, and the name of the three is one token.
 use Rattle.plain.proofs.Assigning.{name-put}
 use borrow.Author.Needs.{needs}
 use Rattle.plain.proofs.assign.put_name.Statement.{statement}

@@ -1,3 +1,4 @@
+-- A dead Other has no line; otherwise its tokens are put, and its line ends at its address.
 use Rattle.lowering.proofs.Lines.{left-out, not-out, line-put}
 use Rattle.plain.proofs.Lines.{inside, other-lines}
 use borrow.Author.Needs.{needs}

@@ -1,3 +1,4 @@
+-- By what is set: one variable gets the form with its name, nothing and more than one the plain block.
 use Rattle.plain.proofs.Printing.{asm-nothing, asm-one, asm-more}
 use borrow.Author.Needs.{needs}
 use Rattle.plain.proofs.other.put_asm.Statement.{statement}

@@ -1,3 +1,4 @@
+-- Three texts of the same kind put one behind the other are one token, and the middle one is the file's text.
 use Rattle.plain.proofs.Printing.{between-put}
 use borrow.Author.Needs.{needs}
 use Rattle.plain.proofs.other.put_between.Statement.{statement}

@@ -1,3 +1,4 @@
+-- The keyword, then the text between its braces as one token: the two tokens of the block.
 use Rattle.plain.proofs.Printing.{block-put}
 use borrow.Author.Needs.{needs}
 use Rattle.plain.proofs.other.put_block.Statement.{statement}

@@ -1,3 +1,4 @@
+-- The name, ` = `, the keyword and the text between its brackets: the four tokens in order.
 use Rattle.plain.proofs.Printing.{call-put}
 use mathlib.Core.Path.{_∙_}
 use borrow.Author.Needs.{needs}

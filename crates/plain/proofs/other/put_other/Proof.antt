@@ -1,3 +1,4 @@
+-- None, one or more variables are found as the definition lists none, one or more, since the tables say who is read and by what name.
 use Rattle.plain.proofs.Printing.{other-put}
 use Rattle.plain.proofs.Setting.{other-is}
 use borrow.Author.Needs.{needs}

@@ -1,3 +1,4 @@
+-- The sign ` = `, the expression and `;` one behind the other are the three pieces asked for.
 use Rattle.plain.proofs.Writing.{becomes-put}
 use borrow.Author.Needs.{needs}
 use Rattle.plain.proofs.parts.put_becomes.Statement.{statement}

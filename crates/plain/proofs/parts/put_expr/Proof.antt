@@ -1,3 +1,4 @@
+-- Behind the last statement every value written in place is open, so what rendering writes is the expression as lowering has it.
 use Rattle.plain.proofs.Writing.{expr-put}
 use borrow.Author.Needs.{needs}
 use Rattle.plain.proofs.parts.put_expr.Statement.{statement}

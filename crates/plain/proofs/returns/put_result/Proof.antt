@@ -1,3 +1,4 @@
+-- A function without a result or a Return without a value puts nothing; otherwise a space and the expression are the definition's pieces.
 use Rattle.plain.proofs.Writing.{result-none, result-empty, result-put}
 use borrow.Author.Needs.{needs}
 use Rattle.plain.proofs.returns.put_result.Statement.{statement}

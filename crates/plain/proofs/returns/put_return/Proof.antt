@@ -1,3 +1,4 @@
+-- The keyword, what is given back if anything, and `;`: the three pieces in order are the Return's tokens.
 use Rattle.plain.proofs.Writing.{return-put}
 use borrow.Author.Needs.{needs}
 use Rattle.plain.proofs.returns.put_return.Statement.{statement}

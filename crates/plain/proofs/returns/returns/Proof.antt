@@ -1,3 +1,4 @@
+-- A dead Return has no line; a live one's tokens are put, and its line ends at its address.
 use Rattle.lowering.proofs.Lines.{left-out, not-out, line-put}
 use Rattle.plain.proofs.Lines.{return-lines}
 use borrow.Author.Needs.{needs}

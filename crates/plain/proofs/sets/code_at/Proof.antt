@@ -1,3 +1,4 @@
+-- RSP's value and one that nobody reads have the code 0, any other the code that the table has at its number.
 use Rattle.plain.proofs.Searching.{code-rsp, code-read, code-unread}
 use borrow.Author.Needs.{needs}
 use Rattle.plain.proofs.sets.code_at.Statement.{statement}

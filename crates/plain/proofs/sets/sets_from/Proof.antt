@@ -1,3 +1,4 @@
+-- What is found so far, carried on over the values from k on, is what all of them give; with none left it is the answer.
 use Rattle.plain.proofs.Searching.{sets-turn, sets-done}
 use Rattle.plain.specs.Asm.{tables, setsFrom}
 use Rattle.plain.specs.declared.sets.Sets.the-variants.{Nothing}

@@ -1,3 +1,4 @@
+-- Its values' items begin behind those of its expressions and are as many as counted; their numbers fit 32 bits as all items do.
 use Rattle.plain.proofs.Searching.{items-low, sets-are}
 use Rattle.defined.proofs.Values.{exprs-small, items-small}
 use native.Mathlib.Omega.{arith}

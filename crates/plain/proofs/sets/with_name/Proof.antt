@@ -1,3 +1,4 @@
+-- A code of 0 changes nothing; otherwise nothing becomes one, and one or more become more.
 use Rattle.plain.proofs.Searching.{name-none, name-first, name-second, name-more}
 use borrow.Author.Needs.{needs}
 use Rattle.plain.proofs.sets.with_name.Statement.{statement}

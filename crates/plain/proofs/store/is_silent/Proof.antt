@@ -1,3 +1,4 @@
+-- A push that a call takes along is silent; any other Store is silent exactly where it is a save.
 use Rattle.plain.proofs.Silencing.{silent-taken, silent-save}
 use borrow.Author.Needs.{needs}
 use Rattle.plain.proofs.store.is_silent.Statement.{statement}

@@ -1,3 +1,4 @@
+-- Not of 32 bits or no push, it is not taken; a 32-bit push is taken exactly where a statement behind it takes pushes.
 use Rattle.plain.proofs.Silencing.{taken-wide, taken-other, taken-is}
 use borrow.Author.Needs.{needs}
 use Rattle.plain.proofs.store.is_taken.Statement.{statement}

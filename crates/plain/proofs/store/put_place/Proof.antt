@@ -1,3 +1,4 @@
+-- The offset of its address decides: one that is not 0 is a slot and prints its name, 0 is a store through the address.
 use Rattle.plain.proofs.Writing.{into-slot, into-through}
 use borrow.Author.Needs.{needs}
 use Rattle.plain.proofs.store.put_place.Statement.{statement}

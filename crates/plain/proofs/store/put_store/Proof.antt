@@ -1,3 +1,4 @@
+-- The pieces of where it stores, and behind them ` = E;` with the expression of its third field, are the Store's.
 use Rattle.plain.proofs.Writing.{store-put}
 use borrow.Author.Needs.{needs}
 use Rattle.plain.proofs.store.put_store.Statement.{statement}

@@ -1,3 +1,4 @@
+-- The pointer's cast, a bracket, the address and a bracket: the four pieces in order are the place behind that address.
 use Rattle.plain.proofs.Writing.{through-put}
 use mathlib.Core.Path.{_∙_}
 use borrow.Author.Needs.{needs}

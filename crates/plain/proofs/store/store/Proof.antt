@@ -1,3 +1,4 @@
+-- Dead or silent, by the definition's two tests in turn, it has no line; otherwise its tokens are put and end at its address.
 use Rattle.lowering.proofs.Lines.{left-out, not-out, line-put}
 use Rattle.plain.proofs.Lines.{store-lines}
 use borrow.Author.Needs.{needs}

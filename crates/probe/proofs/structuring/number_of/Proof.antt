@@ -1,3 +1,4 @@
+-- Too deep is 9 with zeros for the counts, a listing is 0 with its own: the definition's two cases.
 use Rattle.probe.proofs.Numbers.{deep-numbers, listed-numbers}
 use borrow.Author.Needs.{needs}
 use Rattle.probe.proofs.structuring.number_of.Statement.{statement}

@@ -1,3 +1,4 @@
+-- Fewer than six numbers stay as they are; else no write changes the length, and the six counts stand before what follows.
 use Rattle.probe.proofs.Numbers.{no-counts, all-counts}
 use lib.ListN.{length-set}
 use native.Mathlib.Omega.{arith}

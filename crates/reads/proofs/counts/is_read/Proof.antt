@@ -1,3 +1,4 @@
+-- A count of live reads that is not 0 settles it; where it is 0 the entry of the phis decides.
 use Rattle.reads.proofs.ReadAtAll.{read-live, read-phi}
 use borrow.Author.Needs.{needs}
 use Rattle.reads.proofs.counts.is_read.Statement.{statement}

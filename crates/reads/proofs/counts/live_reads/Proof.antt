@@ -1,3 +1,4 @@
+-- The live statements from i on are left to raise; zeros raised at the nodes of all count the reads of each value.
 use Rattle.reads.proofs.Live.{live-done}
 use Rattle.reads.proofs.Visits.{liveFrom, exprs-low, live-start, live-turn, live-end}
 use Rattle.reads.specs.Counts.{raised, visit, slots}

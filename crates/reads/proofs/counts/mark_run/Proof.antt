@@ -1,3 +1,4 @@
+-- Putting x at the nodes from j to b gives at every turn what putting it from a on gives; at the end no node is left.
 use Rattle.reads.proofs.Visits.{place-is, run-turn, run-end}
 use Rattle.reads.specs.Counts.{placed, visit, slots, between}
 use lib.ListN.{length}

@@ -1,3 +1,4 @@
+-- A dead statement has no live uses to mark; those of a live one stand in the list from its start to the next one's and get i + 1.
 use Rattle.records.proofs.Items.{size-small}
 use native.Mathlib.Omega.{arith}
 use Rattle.reads.proofs.Visits.{visit-dead, visit-live}

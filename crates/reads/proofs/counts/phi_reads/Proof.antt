@@ -1,3 +1,4 @@
+-- The inputs from k on are left to mark; the places of all of them name just the values that flow into phis.
 use Rattle.reads.proofs.Phis.{phi-done}
 use Rattle.reads.proofs.Visits.{place-is, inputs-low, each-turn, each-end}
 use Rattle.reads.specs.Counts.{placed, visit, slots}

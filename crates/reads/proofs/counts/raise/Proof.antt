@@ -1,3 +1,4 @@
+-- Below the greatest number the entry is one more; the greatest stays, as the definition has it.
 use Rattle.reads.proofs.Visits.{raise-in, raise-full}
 use borrow.Author.Needs.{needs}
 use Rattle.reads.proofs.counts.raise.Statement.{statement}

@@ -1,3 +1,4 @@
+-- Raising the table at the nodes from j to b gives at every turn what raising it from a on gives; at the end no node is left.
 use Rattle.reads.proofs.Visits.{run-turn, run-end}
 use Rattle.reads.specs.Counts.{raised, visit, slots, between}
 use lib.ListN.{length}

@@ -1,3 +1,4 @@
+-- A dead statement has no live uses; those of a live one stand in the list from its start to the next one's, where the run raises.
 use Rattle.reads.proofs.Visits.{visit-dead, visit-live}
 use borrow.Author.Needs.{needs}
 use Rattle.reads.proofs.counts.raise_stmt.Statement.{statement}

@@ -1,3 +1,4 @@
+-- The table has each value's last live reader below i; i + 1 at the nodes of statement i makes it that below i + 1.
 use Rattle.reads.proofs.Readers.{readers-start, readers-turn, readers-end}
 use Rattle.reads.proofs.Visits.{exprs-low}
 use Rattle.reads.specs.Counts.{readerBelow}

@@ -1,3 +1,4 @@
+-- By the tag: a Load holds one, an Un holds what its child holds, a Bin what its left or else its right child holds, others none.
 use Rattle.reads.proofs.Loading.{is-load, below-un, no-child, left-load, right-load}
 use borrow.Author.Needs.{needs}
 use Rattle.reads.proofs.loads.load_of.Statement.{statement}

@@ -1,3 +1,4 @@
+-- Expressions below i have their answers and zeros stand behind, which is the answer for a child that is not lower; a turn adds one.
 use Rattle.reads.proofs.Loading.{loaded, load-start, load-turn, load-end}
 use Rattle.definition.specs.Contents.{size}
 use Rattle.definition.specs.Edition.{expressions}

@@ -1,3 +1,4 @@
+-- By the tag: a Use puts itself, any other what its children put, left first; a child is bounded by x, which is below b, so b falls.
 use borrow.Author.Needs.{needs}
 use Rattle.reads.proofs.Filling.{put-none, put-use, put-bin, put-un, put-load, put-other, falls-to}
 use Prim.Native.Nat.{ℕ, _<_}

@@ -1,3 +1,4 @@
+-- The statements before i have put their nodes and where they start; the next start is where these nodes end, inside as all have room.
 use Rattle.reads.proofs.Orders.{usesBefore, startsBefore, before-start, before-turn, starts-start, starts-turn, start-here, start-fits, all-nodes, all-starts}
 use Rattle.reads.specs.Filling.{filling, putAll}
 use Rattle.records.proofs.Items.{first-start, first-turn, items-few, items-fit, exprs-fit}

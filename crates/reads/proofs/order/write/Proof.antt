@@ -1,3 +1,4 @@
+-- With room the number is put and the next place is one further; without, all stays, which is what putting it means there.
 use Rattle.reads.proofs.Filling.{put-in, put-out}
 use borrow.Author.Needs.{needs}
 use Rattle.reads.proofs.order.write.Statement.{statement}

@@ -1,3 +1,4 @@
+-- Putting the Use nodes of the roots from the j-th on gives at every turn what putting the statement's gives; a turn puts one root's.
 use Rattle.reads.proofs.Orders.{rootUses, stmt-start, stmt-turn, stmt-end}
 use Rattle.reads.specs.Filling.{filling, putAll}
 use Rattle.reads.specs.Uses.{stmtUses}

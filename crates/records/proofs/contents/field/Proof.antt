@@ -1,3 +1,4 @@
+-- The byte at which the word is read is the place of the definition, so the word is the one that stands there.
 use Rattle.records.proofs.Laws.{word-placed}
 use borrow.Author.Needs.{needs}
 use Rattle.records.proofs.contents.field.Statement.{statement}

@@ -1,3 +1,4 @@
+-- The byte at which the 64-bit number is read is the place of the definition, so it is the one that begins there.
 use Rattle.records.proofs.Laws.{long-placed}
 use borrow.Author.Needs.{needs}
 use Rattle.records.proofs.contents.long_field.Statement.{statement}

@@ -1,3 +1,4 @@
+-- The offset of section s is by definition the word at byte 16 + 8 s; s has 32 bits, so that byte number does not overflow.
 use Rattle.definition.specs.Contents.{offset}
 use borrow.Author.Needs.{needs}
 use Rattle.records.proofs.contents.offset_of.Statement.{statement}

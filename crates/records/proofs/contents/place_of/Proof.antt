@@ -1,3 +1,4 @@
+-- With at most 16 words in a record and 32-bit numbers no product or sum leaves 64 bits, so the place is the definition's.
 use Rattle.records.proofs.Laws.{scaled, place-at}
 use native.Mathlib.Omega.{arith}
 use borrow.Author.Needs.{needs}

@@ -1,3 +1,4 @@
+-- The size of section s is by definition the word at byte 20 + 8 s; s has 32 bits, so that byte number does not overflow.
 use Rattle.definition.specs.Contents.{size}
 use borrow.Author.Needs.{needs}
 use Rattle.records.proofs.contents.size_of.Statement.{statement}

@@ -1,3 +1,4 @@
+-- By the kind: field 2 of a Call or an Other, field 6 of a Branch; a statement of another kind has no expressions among its items.
 use Rattle.records.proofs.Laws.{call-exprs, branch-exprs, other-exprs, no-exprs}
 use borrow.Author.Needs.{needs}
 use Rattle.records.proofs.owners.expr_items.Statement.{statement}

@@ -1,3 +1,4 @@
+-- The lowest bit of the marks is what the definition tests.
 use Rattle.records.proofs.Laws.{dead-is}
 use borrow.Author.Needs.{needs}
 use Rattle.records.proofs.owners.is_dead.Statement.{statement}

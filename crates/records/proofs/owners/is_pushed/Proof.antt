@@ -1,3 +1,4 @@
+-- The third bit of the marks, their quarter's lowest, is what the definition tests.
 use Rattle.records.proofs.Laws.{pushed-is}
 use borrow.Author.Needs.{needs}
 use Rattle.records.proofs.owners.is_pushed.Statement.{statement}

@@ -1,3 +1,4 @@
+-- The items are the expressions and the values; both counts have 32 bits, so their sum fits into 64.
 use Rattle.records.proofs.Laws.{both-items}
 use borrow.Author.Needs.{needs}
 use Rattle.records.proofs.owners.items_of.Statement.{statement}

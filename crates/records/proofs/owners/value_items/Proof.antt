@@ -1,3 +1,4 @@
+-- By the kind: field 6 of a Call, field 3 of an Other; a statement of another kind has no values among its items.
 use Rattle.records.proofs.Laws.{call-values, other-values, no-values}
 use borrow.Author.Needs.{needs}
 use Rattle.records.proofs.owners.value_items.Statement.{statement}

@@ -1,3 +1,4 @@
+-- A Load's child is word 2; of any other tag the k-th child is word 3 + k: the definition's two cases.
 use Rattle.references.proofs.Naming.{load-child, other-child}
 use borrow.Author.Needs.{needs}
 use Rattle.references.proofs.named.child_at.Statement.{statement}

@@ -1,3 +1,4 @@
+-- By the tag that was read: two children of a Bin, one of an Un or a Load, none of anything else.
 use Rattle.references.proofs.Naming.{bin-count, un-count, load-count, no-count}
 use borrow.Author.Needs.{needs}
 use Rattle.references.proofs.named.child_count.Statement.{statement}

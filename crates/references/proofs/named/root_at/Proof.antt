@@ -1,3 +1,4 @@
+-- By the kind: a field of an Assign, Store, Flags or Return, else list item k; as k is below the count of roots, the sums fit.
 use native.Mathlib.Omega.{arith}
 use mathlib.Core.Path.{refl}
 use Rattle.references.proofs.Naming.{assign-root, store-root, flags-root, return-root, item-root, store-count, flags-count, item-count}

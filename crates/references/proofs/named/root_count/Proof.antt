@@ -1,3 +1,4 @@
+-- By the kind: one, two and two for Assign, Store and Flags, a Return's by its field 0, else the expressions among the items.
 use Rattle.references.proofs.Naming.{assign-count, store-count, flags-count, return-count, return-none, item-count}
 use borrow.Author.Needs.{needs}
 use Rattle.references.proofs.named.root_count.Statement.{statement}

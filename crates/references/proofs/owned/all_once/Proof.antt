@@ -1,3 +1,4 @@
+-- The first i entries are 1; one that is not makes the test false of all n, and at the end i is n.
 use native.Mathlib.Omega.{arith}
 use borrow.Author.Needs.{needs}
 use mathlib.Core.Path.{_≡_, refl, sym}

@@ -1,3 +1,4 @@
+-- From 0 it goes to 1, and from any other number to 2: the definition's two cases.
 use native.Mathlib.Omega.{arith}
 use Rattle.references.proofs.Tally.{more-none, more-some}
 use Rattle.references.proofs.owned.one_more.Statement.{statement}

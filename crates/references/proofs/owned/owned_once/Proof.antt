@@ -1,3 +1,4 @@
+-- From zeros the roots and then the children are tallied, which are all mentions: an entry of 1 says one. The table ends as zeros.
 use native.Mathlib.Omega.{arith}
 use Rattle.references.proofs.Sound.{once-answer}
 use borrow.Author.Needs.{needs}

@@ -1,3 +1,4 @@
+-- The tally of the children from the k-th on, in the table so far, is that of them all; k is below 2, as there are two at most.
 use Rattle.references.proofs.Tally.{mention-keeps, names-turn, names-end}
 use native.Mathlib.Omega.{arith}
 use borrow.Author.Needs.{needs}

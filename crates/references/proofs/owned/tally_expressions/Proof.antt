@@ -1,3 +1,4 @@
+-- The tally of the children of expressions from i on, in the table so far, is that of them all; at the end none are left.
 use native.Mathlib.Omega.{arith}
 use borrow.Author.Needs.{needs}
 use mathlib.Core.Path.{_≡_, refl, _∙_}

@@ -1,3 +1,4 @@
+-- The tally of the roots from the k-th on, in the table so far, is that of them all; at the end none are left.
 use Rattle.references.proofs.Tally.{mention-keeps, names-turn, names-end}
 use native.Mathlib.Omega.{arith}
 use borrow.Author.Needs.{needs}

@@ -1,3 +1,4 @@
+-- The tally of the roots of statements from i on is that of them all; `first` is where the items of i begin, and all items are few.
 use native.Mathlib.Omega.{arith}
 use borrow.Author.Needs.{needs}
 use mathlib.Core.Path.{_≡_, refl, _∙_}

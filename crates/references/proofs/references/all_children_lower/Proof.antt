@@ -1,3 +1,4 @@
+-- The first i expressions have lower children; one that has not makes the test false of all, and at the end i is their number.
 use native.Mathlib.Omega.{arith}
 use borrow.Author.Needs.{needs}
 use mathlib.Core.Path.{_≡_}

@@ -1,3 +1,4 @@
+-- The first i statements name expressions that are there, and `first` is the sum of their items, which is at most the sum of all and so fits.
 use native.Mathlib.Omega.{arith}
 use borrow.Author.Needs.{needs}
 use mathlib.Core.Path.{_≡_}

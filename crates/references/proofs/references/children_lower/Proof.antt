@@ -1,3 +1,4 @@
+-- The children before the k-th are lower, so those from k on decide; one that is not below i fails, and at the end none is left.
 use native.Mathlib.Omega.{arith}
 use borrow.Author.Needs.{needs}
 use mathlib.Core.Path.{_≡_, _∙_, sym}

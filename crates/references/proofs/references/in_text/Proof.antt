@@ -1,3 +1,4 @@
+-- The end of the text is a sum of two 32-bit numbers, which fits into 64, and it is compared with the size of the last section.
 use Rattle.references.proofs.Sound.{in-text}
 use borrow.Author.Needs.{needs}
 use Rattle.references.proofs.references.in_text.Statement.{statement}

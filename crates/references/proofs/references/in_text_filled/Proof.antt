@@ -1,3 +1,4 @@
+-- An empty text fails whether it lies inside or not; of one that is not empty, lying inside is all that is asked.
 use native.Mathlib.Omega.{arith}
 use Rattle.references.proofs.Sound.{filled-none, filled-some}
 use borrow.Author.Needs.{needs}

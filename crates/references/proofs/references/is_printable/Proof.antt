@@ -1,3 +1,4 @@
+-- Below 32 the first of the definition's two tests fails; from 32 on it holds, and the second decides.
 use native.Mathlib.Omega.{arith}
 use Rattle.references.proofs.Sound.{low, high}
 use Rattle.references.proofs.references.is_printable.Statement.{statement}

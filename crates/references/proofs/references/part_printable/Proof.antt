@@ -1,3 +1,4 @@
+-- The bytes before i are printable, so the next `left` decide, as far as the file has them; what falls is `left`.
 use borrow.Author.Tests.{not-true, not-false}
 use native.Mathlib.Omega.{arith}
 use borrow.Author.Needs.{needs}

@@ -1,3 +1,4 @@
+-- By the section: each reader gives the word of its own records, as the definition picks it.
 use borrow.Author.Needs.{needs}
 use Rattle.references.specs.Texts.{recordWord}
 use Rattle.references.proofs.references.record_word.Statement.{statement}

@@ -1,3 +1,4 @@
+-- Each test counts where those before hold: one that fails refuses, and being owned once decides last; its table was left as zeros.
 use Rattle.references.proofs.Sound.{refuse, last}
 use Rattle.records.proofs.Also.{also-stop, also-go}
 use Rattle.records.proofs.Items.{items-few}

@@ -1,3 +1,4 @@
+-- The roots before the k-th are there, so those from k on decide; one past the expressions fails, and at the end none is left.
 use native.Mathlib.Omega.{arith}
 use borrow.Author.Needs.{needs}
 use mathlib.Core.Path.{_≡_, _∙_, sym}

@@ -1,3 +1,4 @@
+-- No text is sound; any text is tested for its place, and one that must be filled also for its length: the definition's test of each record.
 use Rattle.references.proofs.Sound.{absent-text, any-text, filled-text}
 use borrow.Author.Needs.{needs}
 use Rattle.references.proofs.references.text_inside.Statement.{statement}

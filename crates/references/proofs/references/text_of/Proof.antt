@@ -1,3 +1,4 @@
+-- A name has its text always; a statement's kind or an expression's tag, as it was read, picks the definition's case, or none of them.
 use borrow.Author.Tests.{ne-eqb}
 use mathlib.Core.Path.{sym, _∙_}
 use borrow.Author.Needs.{needs}

@@ -1,3 +1,4 @@
+-- The text is the last section from its offset on, as long as its size: the part of the file that is looked through.
 use Rattle.references.proofs.Sound.{text-part}
 use borrow.Author.Needs.{needs}
 use Rattle.references.proofs.references.text_printable.Statement.{statement}

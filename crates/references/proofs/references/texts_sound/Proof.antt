@@ -1,3 +1,4 @@
+-- The four tests stand in the definition's order: the first that fails makes it false, and where three hold the last decides.
 use Rattle.references.proofs.Sound.{texts-are}
 use Rattle.records.proofs.Also.{also-stop, also-go}
 use borrow.Author.Needs.{needs}

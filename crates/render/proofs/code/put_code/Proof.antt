@@ -1,3 +1,4 @@
+-- Codes 0 and 1 say the register's own name; above them an even code is a parameter and an odd one a local, each of half the code.
 use Rattle.render.proofs.Coded.{code-own, code-a, code-v}
 use borrow.Author.Needs.{needs}
 use Rattle.render.proofs.code.put_code.Statement.{statement}

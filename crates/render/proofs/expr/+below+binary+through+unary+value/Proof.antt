@@ -1,3 +1,4 @@
+-- By its form an expression is pieces around its children; the position falls where a value opens, and else the node, a child being lower.
 use Rattle.render.proofs.Around.{stays, binary-is, unary-is, through-is, below-nothing, below-within, below-place, below-named, below-form, below-leaf, below-use}
 use Rattle.render.proofs.Valued.{was-open, open-falls, all-within, value-address, value-opened, value-named}
 use Rattle.render.proofs.Falling.{falls-value, falls-node, falls-child}

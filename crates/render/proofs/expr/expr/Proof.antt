@@ -1,3 +1,4 @@
+-- Below the number of expressions stand all of them, so what is printed with that bound is the expression without one.
 use Rattle.render.proofs.Around.{expr-is}
 use Rattle.render.proofs.Valued.{all-within}
 use borrow.Author.Needs.{needs}

@@ -1,3 +1,4 @@
+-- Place 0 is no statement's; any other is that of a statement before the position exactly if it is at most the position.
 use Rattle.render.proofs.Valued.{open-none, open-some}
 use Rattle.render.proofs.expr.is_open.Statement.{statement}
 use Rattle.render.proofs.expr.is_open.Tie as tie

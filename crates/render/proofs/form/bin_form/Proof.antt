@@ -1,3 +1,4 @@
+-- An offset of 0 says that none is known, so the operands are written; any other offset is a stack address.
 use Rattle.render.proofs.Formed.{bin-plain, bin-address}
 use Rattle.render.proofs.form.bin_form.Statement.{statement}
 use Rattle.render.proofs.form.bin_form.Tie as tie

@@ -1,3 +1,4 @@
+-- By the node of the record: each has its form, where a Bin's goes by its own stack offset and a Load's by its address.
 use Rattle.render.proofs.Formed.{form-const, form-use, form-two, form-un, form-through, form-opaque}
 use borrow.Author.Needs.{needs}
 use Rattle.render.proofs.form.form_of.Statement.{statement}

@@ -1,3 +1,4 @@
+-- An address that is not lower is loaded through; a constant that names a global is that global; for any other its stack offset decides.
 use Rattle.render.proofs.Formed.{load-high, load-global, load-slot}
 use borrow.Author.Needs.{needs}
 use Rattle.render.proofs.form.load_form.Statement.{statement}

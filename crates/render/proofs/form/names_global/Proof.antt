@@ -1,3 +1,4 @@
+-- A node that is no constant names no global; for a constant the number that it holds decides.
 use Rattle.render.proofs.Formed.{global-other, global-const}
 use borrow.Author.Needs.{needs}
 use Rattle.render.proofs.form.names_global.Statement.{statement}

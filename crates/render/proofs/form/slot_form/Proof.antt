@@ -1,3 +1,4 @@
+-- An offset of 0 says that none is known, so the load goes through its address; any other offset is a slot.
 use Rattle.render.proofs.Formed.{slot-none, slot-there}
 use Rattle.render.proofs.form.slot_form.Statement.{statement}
 use Rattle.render.proofs.form.slot_form.Tie as tie

@@ -1,3 +1,4 @@
+-- The ampersand, then the slot, are the two tokens of a stack address, one piece behind the other.
 use Rattle.render.proofs.Written.{address-put}
 use borrow.Author.Needs.{needs}
 use Rattle.render.proofs.leaves.put_address.Statement.{statement}

@@ -1,3 +1,4 @@
+-- The pointer, then an opening parenthesis, are the two tokens before an address, one piece behind the other.
 use Rattle.render.proofs.Written.{cast-put}
 use borrow.Author.Needs.{needs}
 use Rattle.render.proofs.leaves.put_cast.Statement.{statement}

@@ -1,3 +1,4 @@
+-- At the top there is no token to put and the room stays; elsewhere the one token is the closing parenthesis.
 use Rattle.render.proofs.Written.{close-top, close-in}
 use borrow.Author.Needs.{needs}
 use Rattle.render.proofs.leaves.put_closing.Statement.{statement}

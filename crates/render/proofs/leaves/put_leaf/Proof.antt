@@ -1,3 +1,4 @@
+-- By which leaf it is: the piece that is put is its token, or for a stack address both tokens, with texts out of the edition's section.
 use Rattle.render.proofs.Written.{leaf-number, leaf-address, leaf-global, leaf-slot, leaf-opaque}
 use borrow.Author.Needs.{needs}
 use Rattle.render.proofs.leaves.put_leaf.Statement.{statement}

@@ -1,3 +1,4 @@
+-- At the top there is no token to put and the room stays; elsewhere the one token is the opening parenthesis.
 use Rattle.render.proofs.Written.{open-top, open-in}
 use borrow.Author.Needs.{needs}
 use Rattle.render.proofs.leaves.put_opening.Statement.{statement}

@@ -1,3 +1,4 @@
+-- A text stands at its section's offset and its own start, so the part of the file that is put is the text.
 use Rattle.render.proofs.Written.{text-put}
 use borrow.Author.Needs.{needs}
 use Rattle.render.proofs.leaves.put_text.Statement.{statement}

@@ -1,3 +1,4 @@
+-- A space, the text without its trailing s and a space are pieces of Punct, which join, and so are the one token of the operator.
 use Rattle.render.proofs.Written.{operator-put}
 use borrow.Author.Needs.{needs}
 use Rattle.render.proofs.operators.put_operator.Statement.{statement}

@@ -1,3 +1,4 @@
+-- Past the file's end no byte is there; where fewer than n are left, these are all of the part; else the n are there.
 use Rattle.render.proofs.Trimming.{there-none, there-all, there-n}
 use borrow.Author.Needs.{needs}
 use Rattle.render.proofs.operators.there.Statement.{statement}

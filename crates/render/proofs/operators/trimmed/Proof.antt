@@ -1,3 +1,4 @@
+-- Trimming the first k bytes gives what trimming all gives: a last s goes, so k falls, and any other byte, or 0, ends it.
 use native.Mathlib.Omega.{arith}
 use borrow.Author.Needs.{needs}
 use Rattle.render.proofs.Trimming.{Left, trim-start, trim-inside, trim-turn, trim-found, trim-done}

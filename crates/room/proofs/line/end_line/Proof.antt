@@ -1,3 +1,4 @@
+-- A full room stays as it is; with room for five more numbers they are the line's row, and without it the room is full from here on.
 use Rattle.room.proofs.Lines.{end-full, end-stops, end-fits}
 use native.Mathlib.Omega.{arith}
 use borrow.Author.Needs.{needs}

@@ -1,3 +1,4 @@
+-- By the two cases of where a line stands: nowhere counts as 0, and an address as 1.
 use Rattle.room.specs.Room.{optionOf}
 use Rattle.definition.specs.Listing.{hasAddress, addressOf}
 use borrow.Author.Needs.{needs}

@@ -1,3 +1,4 @@
+-- At the start of a line there is no token to go on with; behind it a kind that joins goes on with its like, and no other kind does.
 use Rattle.room.proofs.Placing.{goes-first, goes-alike, goes-alone}
 use borrow.Author.Needs.{needs}
 use Rattle.room.proofs.place.goes_on.Statement.{statement}

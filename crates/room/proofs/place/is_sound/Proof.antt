@@ -1,3 +1,4 @@
+-- Each early answer contradicts one of the five conditions of a sound room; where the first four hold the last decides.
 use Rattle.room.proofs.Placing.{sound-full, sound-not, sound-last}
 use native.Mathlib.Omega.{arith}
 use Rattle.room.proofs.place.is_sound.Statement.{statement}

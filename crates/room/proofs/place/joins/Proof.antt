@@ -1,3 +1,4 @@
+-- Punct joins; any other kind does exactly if it is Text.
 use Rattle.room.proofs.Placing.{joins-punct, joins-else}
 use Rattle.room.proofs.place.joins.Statement.{statement}
 use Rattle.room.proofs.place.joins.Tie as tie

@@ -1,3 +1,4 @@
+-- A room that is not sound has no place; a sound one has it where the piece goes on, or else where a number is left for one more token.
 use mathlib.Core.Path.{sym, _∙_}
 use Rattle.room.proofs.Placing.{ready-goes, ready-new, ready-not, sound-told}
 use borrow.Author.Needs.{needs}

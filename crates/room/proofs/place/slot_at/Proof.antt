@@ -1,3 +1,4 @@
+-- A piece that goes on has the place of the token before it, of which there is one; any other has the first place behind all tokens.
 use mathlib.Core.Path.{sym, _∙_}
 use native.Mathlib.Omega.{arith}
 use Rattle.room.proofs.Placing.{slot-before, slot-new, goes-told}

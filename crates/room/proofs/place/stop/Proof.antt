@@ -1,3 +1,4 @@
+-- The record that is made has all counts as before and is full, which is the definition's stopped.
 use Rattle.room.specs.Room.{stopped}
 use mathlib.Core.Path.{refl}
 use Rattle.room.proofs.place.stop.Statement.{statement}

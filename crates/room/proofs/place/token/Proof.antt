@@ -1,3 +1,4 @@
+-- No text, and the room stops; else the place gets eight times the text's end and the kind, which fits as that end is at most 2^32.
 use native.Mathlib.Omega.{arith}
 use Rattle.room.proofs.Placing.{token-end, token-none, token-set}
 use borrow.Author.Needs.{needs}

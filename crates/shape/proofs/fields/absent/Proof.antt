@@ -1,3 +1,4 @@
+-- Where the word before is not 0, anything may stand; where it is 0, the field must be 0: the definition's two cases.
 use Rattle.shape.proofs.Shapes.{absent-is}
 use Rattle.shape.proofs.fields.absent.Statement.{statement}
 use Rattle.shape.proofs.fields.absent.Tie as tie

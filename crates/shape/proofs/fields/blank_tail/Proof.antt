@@ -1,3 +1,4 @@
+-- The fields 3 to 6 are read and each is compared with 0, in the definition's order.
 use Rattle.shape.proofs.Shapes.{tail-is}
 use borrow.Author.Needs.{needs}
 use Rattle.shape.proofs.fields.blank_tail.Statement.{statement}

@@ -1,3 +1,4 @@
+-- Words 2 to 4 and words 5 to 7 are each a bit with two fields; the two groups in a row are the definition's six tests.
 use Rattle.shape.proofs.Shapes.{block-is}
 use borrow.Author.Needs.{needs}
 use Rattle.shape.proofs.fields.block_shaped.Statement.{statement}

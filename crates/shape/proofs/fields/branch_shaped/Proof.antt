@@ -1,3 +1,4 @@
+-- Fields 0 to 2 and fields 3 to 5 are each a bit with two fields; the two groups in a row are a Branch's six tests.
 use Rattle.shape.proofs.Shapes.{branch-is}
 use borrow.Author.Needs.{needs}
 use Rattle.shape.proofs.fields.branch_shaped.Statement.{statement}

@@ -1,3 +1,4 @@
+-- Of a Call only fields 3 to 5 are tested, and they are a bit with two fields: the value that it returns.
 use Rattle.shape.proofs.Shapes.{call-is}
 use borrow.Author.Needs.{needs}
 use Rattle.shape.proofs.fields.call_shaped.Statement.{statement}

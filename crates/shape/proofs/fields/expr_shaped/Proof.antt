@@ -1,3 +1,4 @@
+-- Tag, first and last two fields are read; the test by the tag is the definition's, applied to these words.
 use Rattle.shape.proofs.Shapes.{expr-is}
 use borrow.Author.Needs.{needs}
 use Rattle.shape.proofs.fields.expr_shaped.Statement.{statement}

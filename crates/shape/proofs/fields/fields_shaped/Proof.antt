@@ -1,3 +1,4 @@
+-- By the kind that was read: the test of that kind answers, and a kind that is none of the seven is not right.
 use Rattle.shape.proofs.Shapes.{assign-is, of-kind, no-kind}
 use borrow.Author.Needs.{needs}
 use Rattle.shape.proofs.fields.fields_shaped.Statement.{statement}

@@ -1,3 +1,4 @@
+-- Field 0 of a Flags is a bit, and the four zeros of the tail behind it are the rest of its tests, regrouped.
 use Rattle.shape.proofs.Shapes.{flags-is}
 use borrow.Author.Needs.{needs}
 use Rattle.shape.proofs.fields.flags_shaped.Statement.{statement}

@@ -1,3 +1,4 @@
+-- The first k expressions have 0 behind them, and one that has not decides; at + k fits, as the statement's items end below 2^32.
 use borrow.Author.Tests.{eq-eqb, ne-eqb}
 use borrow.Author.Needs.{needs}
 use native.Mathlib.Omega.{arith}

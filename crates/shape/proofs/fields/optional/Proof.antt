@@ -1,3 +1,4 @@
+-- The test for 0 or 1 and the two fields that may be absent are the definition's three tests, in its order.
 use Rattle.shape.proofs.Shapes.{optional-is}
 use borrow.Author.Needs.{needs}
 use Rattle.shape.proofs.fields.optional.Statement.{statement}

@@ -1,3 +1,4 @@
+-- Of an Other only the fields 4 to 6 are tested: each is read and compared with 0.
 use Rattle.shape.proofs.Shapes.{other-is}
 use borrow.Author.Needs.{needs}
 use Rattle.shape.proofs.fields.other_shaped.Statement.{statement}

@@ -1,3 +1,4 @@
+-- Of a phi only word 2, whether it is dead, is tested, and it must be 0 or 1.
 use Rattle.shape.proofs.Shapes.{phi-is}
 use borrow.Author.Needs.{needs}
 use Rattle.shape.proofs.fields.phi_shaped.Statement.{statement}

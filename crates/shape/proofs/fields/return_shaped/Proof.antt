@@ -1,3 +1,4 @@
+-- A bit, the field that it speaks of, a zero, and the four zeros of the tail: regrouped, the seven tests of a Return.
 use Rattle.shape.proofs.Shapes.{return-is}
 use borrow.Author.Needs.{needs}
 use Rattle.shape.proofs.fields.return_shaped.Statement.{statement}

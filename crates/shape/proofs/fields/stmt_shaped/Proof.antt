@@ -1,3 +1,4 @@
+-- Marks up to 7, the fields by the kind, the items from `at` on: the definition's three tests, in its order.
 use Rattle.shape.proofs.Shapes.{stmt-is}
 use borrow.Author.Needs.{needs}
 use Rattle.shape.proofs.fields.stmt_shaped.Statement.{statement}

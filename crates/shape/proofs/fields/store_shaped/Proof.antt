@@ -1,3 +1,4 @@
+-- Field 0 of a Store is a byte, and the four zeros of the tail behind it are the rest of its tests, regrouped.
 use Rattle.shape.proofs.Shapes.{store-is}
 use borrow.Author.Needs.{needs}
 use Rattle.shape.proofs.fields.store_shaped.Statement.{statement}

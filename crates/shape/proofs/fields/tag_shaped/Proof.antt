@@ -1,3 +1,4 @@
+-- Bin, Un and Load have each a test of their own; Const, Use and Opaque share one, which no other tag passes.
 use Rattle.shape.proofs.Shapes.{bin-is, un-is, load-is, plain-is}
 use Rattle.shape.proofs.fields.tag_shaped.Statement.{statement}
 use Rattle.shape.proofs.fields.tag_shaped.Tie as tie

@@ -1,3 +1,4 @@
+-- The sum so far is that of the owners before i and within the whole; sums only grow, so one that would pass the whole never equals it.
 use borrow.Author.Needs.{needs}
 use native.Mathlib.Omega.{arith}
 use Prim.Native.Nat.{ℕ, _-_, _≤_}

@@ -1,3 +1,4 @@
+-- The sections from s on decide, from the byte reached; one that begins elsewhere fails, as does one past the end: nothing follows there.
 use borrow.Author.Tests.{not-true, not-false}
 use borrow.Author.Needs.{needs}
 use native.Mathlib.Omega.{arith}

@@ -1,3 +1,4 @@
+-- With 0 words the count is the bytes; else the product of two 32-bit numbers fits, and four times it by what is required.
 use native.Mathlib.Omega.{arith}
 use Rattle.shape.proofs.Sections.{bytes-plain, bytes-words, product}
 use Rattle.shape.proofs.layout.bytes_of.Statement.{statement}

@@ -1,3 +1,4 @@
+-- As `from` is within the file, bytes that fit into what is left behind it are bytes that end within the file.
 use Rattle.shape.proofs.Sections.{follows-is}
 use borrow.Author.Needs.{needs}
 use Rattle.shape.proofs.layout.follows.Statement.{statement}

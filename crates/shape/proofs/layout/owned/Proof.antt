@@ -1,3 +1,4 @@
+-- Where the parts of all owners end is the sum of their counts; the four sums are compared with the sizes of their sections.
 use Rattle.shape.proofs.Shapes.{owned-is}
 use borrow.Author.Needs.{needs}
 use Rattle.shape.proofs.layout.owned.Statement.{statement}

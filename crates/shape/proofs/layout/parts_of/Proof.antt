@@ -1,3 +1,4 @@
+-- By what is asked for: phis, statements, inputs or items, each count is the one that the definition takes.
 use Rattle.shape.specs.declared.layout.Parts.the-variants.{Phis, Stmts, Inputs, Items}
 use Rattle.shape.proofs.Shapes.{parts-is}
 use Rattle.shape.specs.Shapes.{partsOf}

@@ -1,3 +1,4 @@
+-- The length, the word at byte 0 and the word at byte 12 are read, and the three tests are the definition's.
 use Rattle.shape.proofs.Sections.{refused2-is}
 use borrow.Author.Needs.{needs}
 use Rattle.shape.proofs.limits.refused2.Statement.{statement}

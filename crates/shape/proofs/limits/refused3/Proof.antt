@@ -1,3 +1,4 @@
+-- The length against the edition's most, or a section of too many records: the definition's two tests.
 use Rattle.shape.proofs.Sections.{refused3-is}
 use borrow.Author.Needs.{needs}
 use Rattle.shape.proofs.limits.refused3.Statement.{statement}

@@ -1,3 +1,4 @@
+-- No section before s passes its limit, so those from s on decide: one that does answers, and at the end none is left.
 use borrow.Author.Needs.{needs}
 use native.Mathlib.Omega.{arith}
 use Prim.Native.Nat.{_-_}

@@ -1,3 +1,4 @@
+-- By the section: a block, a phi or an expression has its own test, and that one answers.
 use borrow.Author.Needs.{needs}
 use Rattle.shape.proofs.shape.record_shaped.Statement.{statement}
 use Rattle.shape.proofs.shape.record_shaped.Tie as tie

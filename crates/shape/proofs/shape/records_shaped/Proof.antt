@@ -1,3 +1,4 @@
+-- The first i records have their shape; one that has not makes the test false of all n, and at the end i is n.
 use borrow.Author.Needs.{needs}
 use native.Mathlib.Omega.{arith}
 use Prim.Native.Nat.{_-_, _≤_}

@@ -1,3 +1,4 @@
+-- Each test is made where those before hold: one that fails refuses, and the last decides, all being owned as it requires.
 use mathlib.Core.Path.{sym, _∙_}
 use borrow.Author.Tests.{not-false}
 use Rattle.records.proofs.Also.{also-stop, also-go}

@@ -1,3 +1,4 @@
+-- Each loop runs to the size of its section, so the five answers are the definition's five tests, in its order.
 use Rattle.shape.proofs.Shapes.{shaped-is}
 use borrow.Author.Needs.{needs}
 use Rattle.shape.proofs.shape.shaped.Statement.{statement}

@@ -1,3 +1,4 @@
+-- The first i statements have their shape and `at` is where the next one's items begin, within 32 bits since all items are owned.
 use borrow.Author.Needs.{needs}
 use native.Mathlib.Omega.{arith}
 use Prim.Native.Nat.{_-_, _≤_}

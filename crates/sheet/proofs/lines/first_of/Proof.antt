@@ -1,3 +1,4 @@
+-- Line 0 begins at 0, any other where the line before it ends: the definition's two cases.
 use Rattle.sheet.proofs.Reading.{first-first, first-later}
 use borrow.Author.Needs.{needs}
 use Rattle.sheet.proofs.lines.first_of.Statement.{statement}

@@ -1,3 +1,4 @@
+-- Number 3 of the line's five is where its tokens end.
 use Rattle.sheet.proofs.Reading.{last-in}
 use borrow.Author.Needs.{needs}
 use Rattle.sheet.proofs.lines.last_of.Statement.{statement}

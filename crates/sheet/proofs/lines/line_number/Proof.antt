@@ -1,3 +1,4 @@
+-- Where all numbers end before line i there is none, which counts as 0; else the place 5i + k is small enough to be summed, and is read.
 use Rattle.sheet.proofs.Reading.{line-out}
 use borrow.Author.Needs.{needs}
 use Rattle.sheet.proofs.lines.line_number.Statement.{statement}

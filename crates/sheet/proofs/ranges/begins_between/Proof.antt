@@ -1,3 +1,4 @@
+-- The part is the range, and what stands at its place 0 is what it begins with.
 use borrow.Author.Needs.{needs}
 use Rattle.sheet.proofs.ranges.begins_between.Statement.{statement}
 use Rattle.sheet.proofs.ranges.begins_between.Tie as tie

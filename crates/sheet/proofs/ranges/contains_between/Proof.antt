@@ -1,3 +1,4 @@
+-- The part is the range, so a word stands somewhere in the one exactly if it does in the other.
 use borrow.Author.Needs.{needs}
 use Rattle.sheet.proofs.ranges.contains_between.Statement.{statement}
 use Rattle.sheet.proofs.ranges.contains_between.Tie as tie

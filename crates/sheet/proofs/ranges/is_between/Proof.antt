@@ -1,3 +1,4 @@
+-- The part is the range, so it is the same text as w exactly if the range is.
 use borrow.Author.Needs.{needs}
 use Rattle.sheet.proofs.ranges.is_between.Statement.{statement}
 use Rattle.sheet.proofs.ranges.is_between.Tie as tie

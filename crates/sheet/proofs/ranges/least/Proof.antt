@@ -1,3 +1,4 @@
+-- Where a is at most b it is the lesser; else b is.
 use native.Mathlib.Omega.{arith}
 use mathlib.Core.Path.{sym}
 use Rattle.sheet.proofs.Reading.{least-left, least-right}

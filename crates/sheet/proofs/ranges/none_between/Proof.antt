@@ -1,3 +1,4 @@
+-- The range has no byte exactly if its end, cut to the text's length, is at most its start.
 use Rattle.sheet.proofs.Reading.{empty-is}
 use borrow.Author.Needs.{needs}
 use Rattle.sheet.proofs.ranges.none_between.Statement.{statement}

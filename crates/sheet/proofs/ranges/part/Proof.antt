@@ -1,3 +1,4 @@
+-- The end is cut to the text's length and the start to that end, so the slice is inside, and it has the bytes that the range has.
 use Rattle.sheet.proofs.Reading.{least-le, range-is}
 use lib.ListN.{length}
 use native.Mathlib.Omega.{arith}

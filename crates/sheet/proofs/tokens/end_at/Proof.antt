@@ -1,3 +1,4 @@
+-- The number divided by 8 is the token's end by definition.
 use Rattle.sheet.proofs.Reading.{end-is}
 use borrow.Author.Needs.{needs}
 use Rattle.sheet.proofs.tokens.end_at.Statement.{statement}

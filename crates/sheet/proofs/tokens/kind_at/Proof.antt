@@ -1,3 +1,4 @@
+-- What is left of the number by 8 is the kind by definition, and being below 8 it is a number of 32 bits.
 use Rattle.sheet.proofs.Reading.{kind-is}
 use borrow.Author.Needs.{needs}
 use Rattle.sheet.proofs.tokens.kind_at.Statement.{statement}

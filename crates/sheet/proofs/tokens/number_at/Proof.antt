@@ -1,3 +1,4 @@
+-- Inside the list the number is read; outside the answer is 0, the default of the definition.
 use native.Mathlib.Omega.{arith}
 use Rattle.sheet.proofs.Reading.{number-in, number-out}
 use borrow.Author.Needs.{needs}

@@ -1,3 +1,4 @@
+-- A place behind all tokens reads as nothing, as a + k does there; in the last case the place is a + k itself.
 use native.Mathlib.Omega.{arith}
 use mathlib.Core.Path.{refl}
 use Rattle.sheet.proofs.Reading.{place-past, place-is}

@@ -1,3 +1,4 @@
+-- The token at place 0 starts at 0, any other where the one before it ends: the definition's two cases.
 use Rattle.sheet.proofs.Reading.{start-first, start-later}
 use borrow.Author.Needs.{needs}
 use Rattle.sheet.proofs.tokens.start_at.Statement.{statement}

@@ -1,3 +1,4 @@
+-- Another kind is another token; of the same kind, the range from its start to its end is its text, and that decides.
 use Rattle.sheet.proofs.Reading.{token-other, token-same}
 use borrow.Author.Needs.{needs}
 use Rattle.sheet.proofs.tokens.token_is.Statement.{statement}

@@ -1,3 +1,4 @@
+-- None of the lines before i is the label; the first that is gives 1 + its place, and where all are passed the answer is 0.
 use Rattle.sorts.proofs.Naming.{Sought, sought-start, sought-found, sought-on, sought-end}
 use Rattle.sheet.specs.Buffers.{textAt}
 use Prim.Native.Nat.{_-_}

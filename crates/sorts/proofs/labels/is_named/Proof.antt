@@ -1,3 +1,4 @@
+-- A line that is no label has no name; a label's name is the text of its first token, which is compared with the text at place p.
 use Rattle.sorts.proofs.Naming.{line-other, line-named}
 use borrow.Author.Needs.{needs}
 use Rattle.sorts.proofs.labels.is_named.Statement.{statement}

@@ -1,3 +1,4 @@
+-- A token's text is the range from its start to its end, so comparing the two ranges compares the two texts.
 use Rattle.sorts.proofs.Naming.{texts-same}
 use borrow.Author.Needs.{needs}
 use Rattle.sorts.proofs.labels.same_name.Statement.{statement}

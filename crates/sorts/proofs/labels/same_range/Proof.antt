@@ -1,3 +1,4 @@
+-- The second range with its ends cut at the text's end holds the same bytes and lies inside the text, so it can be taken and compared.
 use Rattle.sorts.proofs.Naming.{range-same}
 use Rattle.sheet.proofs.Reading.{least-le}
 use native.Mathlib.Omega.{arith}

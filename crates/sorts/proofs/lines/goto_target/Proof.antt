@@ -1,3 +1,4 @@
+-- The two searches end where the definition's recursions do: no `goto`, or no Symbol behind it, is no target, else that Symbol is.
 use Rattle.sorts.proofs.Targets.{target-none, target-ended, target-at}
 use borrow.Author.Needs.{needs}
 use Rattle.sorts.proofs.lines.goto_target.Statement.{statement}

@@ -1,3 +1,4 @@
+-- Any count but two is no label, nor is a first token that is no Symbol; of what is left, the second token against `:` decides.
 use Rattle.sorts.proofs.Targets.{label-none, label-other, label-colon}
 use native.Mathlib.Omega.{arith}
 use borrow.Author.Needs.{needs}

@@ -1,3 +1,4 @@
+-- No place from a up to j holds a Symbol, so the first from j on is the first of all; the loop stops at it, or at the end.
 use Rattle.sorts.proofs.Targets.{symbol-is, symbol-not}
 use Rattle.sorts.proofs.Searches.{place-end, place-found, place-on}
 use Rattle.sorts.specs.Places.{firstPlace, symbolAt}

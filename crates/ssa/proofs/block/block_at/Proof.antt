@@ -1,3 +1,4 @@
+-- Each field is a number of the block's record, a test of one against 1, or a count of the block's parts, in code and definition alike.
 use Rattle.ssa.specs.Block.{blockRecord}
 use borrow.Author.Needs.{needs}
 use Rattle.ssa.proofs.block.block_at.Statement.{statement}

@@ -1,3 +1,4 @@
+-- Equal values have equal registers and versions, so these are words 0 and 1; the dead mark is word 2 against 1, the inputs a count.
 use Rattle.ssa.proofs.Laws.{phi-is}
 use borrow.Author.Needs.{needs}
 use Rattle.ssa.proofs.block.phi_at.Statement.{statement}

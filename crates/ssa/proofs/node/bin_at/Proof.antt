@@ -1,3 +1,4 @@
+-- The operator's text is read as a text is, and words 3 and 4 are the two children: together they are the record of a Bin.
 use Rattle.ssa.specs.Node.{binRecord}
 use borrow.Author.Needs.{needs}
 use Rattle.ssa.proofs.node.bin_at.Statement.{statement}

@@ -1,3 +1,4 @@
+-- Words 1 and 2 of the expression are the size and the child of a Load.
 use Rattle.ssa.specs.Node.{loadRecord}
 use borrow.Author.Needs.{needs}
 use Rattle.ssa.proofs.node.load_at.Statement.{statement}

@@ -1,3 +1,4 @@
+-- By the tag: each of the five picks its own record, and a number that is none of them falls through every test to an Opaque.
 use Rattle.ssa.proofs.Laws.{is-const, is-use, is-bin, is-un, is-load, is-opaque}
 use borrow.Author.Needs.{needs}
 use Rattle.ssa.proofs.node.node_at.Statement.{statement}

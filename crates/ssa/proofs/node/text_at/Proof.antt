@@ -1,3 +1,4 @@
+-- Words 1 and 2 of the expression are where the text starts and how long it is.
 use Rattle.ssa.specs.Node.{textRecord}
 use borrow.Author.Needs.{needs}
 use Rattle.ssa.proofs.node.text_at.Statement.{statement}

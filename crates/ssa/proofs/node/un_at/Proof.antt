@@ -1,3 +1,4 @@
+-- The operator's text is read as a text is, and word 3 is the child: together they are the record of an Un.
 use Rattle.ssa.specs.Node.{unRecord}
 use borrow.Author.Needs.{needs}
 use Rattle.ssa.proofs.node.un_at.Statement.{statement}

@@ -1,3 +1,4 @@
+-- Words 1 and 2 of the expression are the register and the version of the value.
 use Rattle.ssa.specs.Node.{useRecord}
 use borrow.Author.Needs.{needs}
 use Rattle.ssa.proofs.node.use_at.Statement.{statement}

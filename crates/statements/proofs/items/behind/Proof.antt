@@ -1,3 +1,4 @@
+-- By whether n fits into what 32 bits leave above the first place: the sum where it does, else the last place, as the definition has it.
 use Rattle.statements.proofs.Laws.{behind-fits, behind-last}
 use borrow.Author.Needs.{needs}
 use Rattle.statements.proofs.items.behind.Statement.{statement}

@@ -1,3 +1,4 @@
+-- The expressions come first among the items, so the run begins at the place given; its length is their count.
 use Rattle.statements.specs.Items.{exprRun}
 use borrow.Author.Needs.{needs}
 use Rattle.statements.proofs.items.expr_run.Statement.{statement}

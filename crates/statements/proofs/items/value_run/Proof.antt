@@ -1,3 +1,4 @@
+-- The values stand behind the expressions, so the run begins their count further on; its length is the count of values.
 use Rattle.statements.specs.Items.{valueRun}
 use borrow.Author.Needs.{needs}
 use Rattle.statements.proofs.items.value_run.Statement.{statement}

@@ -1,3 +1,4 @@
+-- Fields 0 and 1 are the register and the version of what is assigned, and field 2 is the expression.
 use Rattle.statements.specs.Statement.{assignRecord}
 use borrow.Author.Needs.{needs}
 use Rattle.statements.proofs.statement.assign_at.Statement.{statement}

@@ -1,3 +1,4 @@
+-- Field 0 says whether there is a condition, 1 and 2 its text, 3 whether there is a target; its address and the uses complete the record.
 use Rattle.statements.specs.Statement.{branchRecord}
 use borrow.Author.Needs.{needs}
 use Rattle.statements.proofs.statement.branch_at.Statement.{statement}

@@ -1,3 +1,4 @@
+-- Fields 0 and 1 are the target, 3 to 5 what is returned; the run of expressions is the arguments and the run of values the clobbers.
 use Rattle.statements.specs.Statement.{callRecord}
 use borrow.Author.Needs.{needs}
 use Rattle.statements.proofs.statement.call_at.Statement.{statement}

@@ -1,3 +1,4 @@
+-- Field 0 against 1 tells a TEST from a CMP, and fields 1 and 2 are the operands.
 use Rattle.statements.specs.Statement.{flagsRecord}
 use borrow.Author.Needs.{needs}
 use Rattle.statements.proofs.statement.flags_at.Statement.{statement}

@@ -1,3 +1,4 @@
+-- By the number of the kind: each of the six picks its own record, and any other number falls through every test to an Other.
 use Rattle.statements.proofs.Laws.{is-assign, is-store, is-call, is-branch, is-flags, is-return, is-other}
 use borrow.Author.Needs.{needs}
 use Rattle.statements.proofs.statement.kind_at.Statement.{statement}

@@ -1,3 +1,4 @@
+-- Fields 0 and 1 are the text, the run of expressions is what it uses and the run of values what it defines.
 use Rattle.statements.specs.Statement.{otherRecord}
 use borrow.Author.Needs.{needs}
 use Rattle.statements.proofs.statement.other_at.Statement.{statement}

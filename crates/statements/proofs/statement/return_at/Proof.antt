@@ -1,3 +1,4 @@
+-- Field 0 against 1 says whether something is returned, and field 1 is the expression.
 use Rattle.statements.specs.Statement.{returnRecord}
 use borrow.Author.Needs.{needs}
 use Rattle.statements.proofs.statement.return_at.Statement.{statement}

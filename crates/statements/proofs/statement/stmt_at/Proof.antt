@@ -1,3 +1,4 @@
+-- The address is the record's first number and the marks are word 2; with the kind they are the whole statement.
 use Rattle.statements.specs.Statement.{stmtRecord}
 use borrow.Author.Needs.{needs}
 use Rattle.statements.proofs.statement.stmt_at.Statement.{statement}

@@ -1,3 +1,4 @@
+-- Fields 0, 1 and 2 are the size, the address and the value of a Store.
 use Rattle.statements.specs.Statement.{storeRecord}
 use borrow.Author.Needs.{needs}
 use Rattle.statements.proofs.statement.store_at.Statement.{statement}

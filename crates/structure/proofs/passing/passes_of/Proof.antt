@@ -1,3 +1,4 @@
+-- Each pass starts from the rows that the one before it left; a refusal ends the run there, else what the third leaves is the answer.
 use Rattle.structure.proofs.Running.{ifs-refused, loops-refused, all-left}
 use borrow.Author.Needs.{needs}
 use Rattle.structure.proofs.passing.passes_of.Statement.{statement}

@@ -1,3 +1,4 @@
+-- Each table is cleared from 0 on over its whole length, and that leaves zeros alone.
 use Rattle.structure.proofs.Running.{cleared}
 use borrow.Author.Needs.{needs}
 use Rattle.structure.proofs.passing.wipe.Statement.{statement}

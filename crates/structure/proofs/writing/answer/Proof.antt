@@ -1,3 +1,4 @@
+-- Where the passes refuse, nothing is written and the answer is too deep; else the rows left are headed as promised, and written.
 use Rattle.structure.proofs.Sheeted.{answered-deep, answered-left, heads-left}
 use borrow.Author.Needs.{needs}
 use Rattle.structure.proofs.writing.answer.Statement.{statement}

@@ -1,3 +1,4 @@
+-- The tests counted and those of the lines from i on are all of them; each turn counts one line, at most 1, and at the end none is left.
 use Rattle.structure.proofs.Counting.{testsFrom, tests-start, turned, tests-end, bit-le}
 use Rattle.sorts.specs.Sorted.{linesIn}
 use Rattle.definition.specs.Listing.{tests}

@@ -1,3 +1,4 @@
+-- Where the rows' lines fit, the sheet that they make is the one written, so its buffers and counts are these, and its tests are counted.
 use Rattle.structure.proofs.Sheeted.{written-whole}
 use borrow.Author.Needs.{needs}
 use Rattle.structure.proofs.writing.write.Statement.{statement}

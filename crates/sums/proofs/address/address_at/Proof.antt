@@ -1,3 +1,4 @@
+-- By the tag: a Use has what is known of its value, a Bin has its sum's offset, and any other has 0.
 use Rattle.sums.proofs.Nodes.{address-use, address-bin, address-no}
 use borrow.Author.Needs.{needs}
 use Rattle.sums.proofs.address.address_at.Statement.{statement}

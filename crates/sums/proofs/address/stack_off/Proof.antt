@@ -1,3 +1,4 @@
+-- An expression of the file has the offset that its records give, as its tree does; past the last one there is no tree and no offset.
 use Rattle.sums.proofs.Naming.{under, over, expr-inside, off-in}
 use Rattle.sums.proofs.Trees.{off-past}
 use borrow.Author.Needs.{needs}

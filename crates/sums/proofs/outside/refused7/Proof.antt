@@ -1,3 +1,4 @@
+-- No expression below i is outside; the first that is refuses the file, and when i is at the end none is.
 use Rattle.values.specs.Tables.{table}
 use Rattle.definition.specs.Offsets.{Known, look, outside}
 use Rattle.definition.specs.Read.{trees}

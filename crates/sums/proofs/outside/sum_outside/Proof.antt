@@ -1,3 +1,4 @@
+-- The definition's tests in order: a Bin, a sign, a constant, a known base; after these a sum of 0 is one that is outside.
 use Rattle.sums.proofs.Nodes.{const-lower, outside-tag, outside-op, outside-const, outside-base, outside-sum}
 use borrow.Author.Tests.{not-true, not-false}
 use native.Mathlib.Omega.{arith}

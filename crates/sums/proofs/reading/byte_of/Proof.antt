@@ -1,3 +1,4 @@
+-- A text past the end or of length 0 has no byte, one of length 1 or at the file's last byte has one, any other has more: 0 again.
 use Rattle.sums.proofs.Nodes.{byte-past, byte-none, byte-one, byte-last, byte-more}
 use borrow.Author.Needs.{needs}
 use Rattle.sums.proofs.reading.byte_of.Statement.{statement}

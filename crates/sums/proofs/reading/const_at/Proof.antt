@@ -1,3 +1,4 @@
+-- The definition's tests in order: the left child is lower, the right one is, and the tag of the right one is a constant's.
 use Rattle.sums.proofs.Nodes.{const-left, const-right, const-tag}
 use borrow.Author.Needs.{needs}
 use Rattle.sums.proofs.reading.const_at.Statement.{statement}

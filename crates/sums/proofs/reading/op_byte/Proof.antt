@@ -1,3 +1,4 @@
+-- The operator's text begins word 1 behind the text section's offset and has word 2 bytes; its only byte is the answer.
 use Rattle.sums.proofs.Nodes.{op-is}
 use borrow.Author.Needs.{needs}
 use Rattle.sums.proofs.reading.op_byte.Statement.{statement}

@@ -1,3 +1,4 @@
+-- Without a constant on the right there is no sum; with one the left child is lower, so its place is inside, and the operator decides.
 use Rattle.sums.proofs.Nodes.{const-lower, sum-none, sum-some}
 use borrow.Author.Tests.{not-true, not-false}
 use native.Mathlib.Omega.{arith}

@@ -1,3 +1,4 @@
+-- Only a Use is a value: it has what the table says at its place, and any other tag has 0.
 use Rattle.sums.proofs.Nodes.{used-yes, used-no}
 use borrow.Author.Needs.{needs}
 use Rattle.sums.proofs.reading.used_at.Statement.{statement}

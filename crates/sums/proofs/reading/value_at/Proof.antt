@@ -1,3 +1,4 @@
+-- The place has a value's number, and at that number the table says what is known of it.
 use Rattle.sums.proofs.Nodes.{value-is}
 use borrow.Author.Needs.{needs}
 use Rattle.sums.proofs.reading.value_at.Statement.{statement}

@@ -1,3 +1,4 @@
+-- Below 2^63 the constant goes forward; from there on it is negative, and what is missing to 2^64 goes backward.
 use Rattle.sums.proofs.Signed.{plus-low, plus-high}
 use native.Mathlib.Omega.{arith}
 use borrow.Author.Needs.{needs}

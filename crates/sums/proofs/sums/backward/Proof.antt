@@ -1,3 +1,4 @@
+-- Where m is below s it is the difference; else it is 0, which the difference of natural numbers is there by itself.
 use Rattle.sums.proofs.Signed.{back-in, back-out}
 use borrow.Author.Needs.{needs}
 use Rattle.sums.proofs.sums.backward.Statement.{statement}

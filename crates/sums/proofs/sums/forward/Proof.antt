@@ -1,3 +1,4 @@
+-- Where nothing is known nothing is derived; the test before the sum is whether it is below 2^64, and else it is 0.
 use Rattle.sums.proofs.Signed.{forth-none, forth-in, forth-out}
 use native.Mathlib.Omega.{arith}
 use borrow.Author.Needs.{needs}

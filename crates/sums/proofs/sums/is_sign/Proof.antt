@@ -1,3 +1,4 @@
+-- A plus is a sign; of any other byte the test for a minus is left.
 use Rattle.sums.proofs.Nodes.{sign-plus, sign-other}
 use Rattle.sums.proofs.sums.is_sign.Statement.{statement}
 use Rattle.sums.proofs.sums.is_sign.Tie as tie

@@ -1,3 +1,4 @@
+-- By the operator's byte: a plus adds, a minus subtracts, and any other derives nothing.
 use Rattle.sums.proofs.Signed.{by-plus, by-minus, by-none}
 use borrow.Author.Needs.{needs}
 use Rattle.sums.proofs.sums.signed.Statement.{statement}

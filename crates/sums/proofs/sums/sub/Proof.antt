@@ -1,3 +1,4 @@
+-- Below 2^63 the constant goes backward; from there on it is negative, and what is missing to 2^64 goes forward.
 use Rattle.sums.proofs.Signed.{minus-low, minus-high}
 use native.Mathlib.Omega.{arith}
 use borrow.Author.Needs.{needs}

@@ -1,3 +1,4 @@
+-- Each of the fourteen tables is emptied by one of the four calls, and together they are the record of zeros.
 use Rattle.tables.proofs.Emptying.{all-clear}
 use Rattle.tables.specs.Tables.{tablesOf}
 use borrow.Author.Needs.{needs}

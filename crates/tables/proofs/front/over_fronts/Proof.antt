@@ -1,3 +1,4 @@
+-- A sound file has at most as many places as a table, so each front is inside; what the stages leave in it, with zeros behind, is the table.
 use Rattle.tables.proofs.Filling.{front-fits, front-lent, front-back}
 use Rattle.tables.specs.Tables.{tablesOf}
 use lib.Seq.{length-take-le, length-front}

@@ -1,3 +1,4 @@
+-- Two groups of five tables by place, then those by record: the first group that fails makes it false, else the last decides.
 use Rattle.tables.proofs.Fitting.{falls, holds}
 use Rattle.tables.specs.Tables.{allLong}
 use borrow.Author.Needs.{needs}

@@ -1,3 +1,4 @@
+-- Five lengths in the definition's order: the first that is another makes it false, and where four are right the last decides.
 use Rattle.tables.proofs.Fitting.{other, same}
 use Rattle.tables.specs.Tables.{longPlaces}
 use mathlib.Core.Path.{refl}

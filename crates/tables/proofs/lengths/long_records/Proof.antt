@@ -1,3 +1,4 @@
+-- Four lengths in the definition's order: the first that is another makes it false, and where three are right the last decides.
 use Rattle.tables.proofs.Fitting.{other, same}
 use Rattle.tables.specs.Tables.{longRecords}
 use mathlib.Core.Path.{refl}

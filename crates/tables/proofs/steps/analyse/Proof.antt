@@ -1,3 +1,4 @@
+-- Each stage gets what the one before left; where a sum is outside the tables of values are emptied and all are zeros, else only the keys are.
 use Rattle.tables.proofs.Filling.{beyond, inside, wiped, staged}
 use Rattle.tables.proofs.Staging.{unnumbered, unread-still, grounded, all-keys}
 use Rattle.tables.specs.Tables.{tablesOf}

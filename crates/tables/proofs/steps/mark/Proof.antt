@@ -1,3 +1,4 @@
+-- With the file's offsets and roots, marking from zeros leaves the classes that are really read, and the labels are made from zeros alone.
 use Rattle.tables.proofs.Staging.{unmarked, unlabelled, marked}
 use borrow.Author.Needs.{needs}
 use Rattle.tables.proofs.steps.mark.Statement.{statement}

@@ -1,3 +1,4 @@
+-- The variables' roots and places serve the names, the roots then the marks; spare is emptied between, and naming leaves its scratch as zeros.
 use Rattle.tables.proofs.Staging.{shared, unplaced, nameable, nameless, rooted-so, unmarked-still, called}
 use mathlib.Core.Path.{_∙_}
 use borrow.Author.Needs.{needs}

@@ -1,3 +1,4 @@
+-- What is read is what naming asks for; of the six tables four are emptied, as long as before, and the two that lowering asks for stay.
 use Rattle.tables.proofs.Staging.{unread, read-so, counted}
 use mathlib.Core.Path.{_∙_}
 use borrow.Author.Needs.{needs}

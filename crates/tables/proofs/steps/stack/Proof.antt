@@ -1,3 +1,4 @@
+-- From zeros the table becomes that of the file's offsets; what check 7 answers over it is then the definition's refusal.
 use Rattle.tables.proofs.Staging.{ground, unstacked, stacked}
 use borrow.Author.Needs.{needs}
 use Rattle.tables.proofs.steps.stack.Statement.{statement}

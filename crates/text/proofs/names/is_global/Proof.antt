@@ -1,3 +1,4 @@
+-- Below 0x1000 the definition's first test fails; from there on it holds, and the test against 2^63 is left.
 use Rattle.text.proofs.Lookups.{global-low, global-high}
 use Rattle.text.proofs.names.is_global.Statement.{statement}
 use Rattle.text.proofs.names.is_global.Tie as tie

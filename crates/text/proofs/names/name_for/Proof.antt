@@ -1,3 +1,4 @@
+-- The first name for the address is the first of those from i on: it is name i, or that one may be passed, or none is left.
 use Rattle.text.proofs.Lookups.{index-start, index-here, index-next, index-none}
 use Rattle.text.specs.Supplied.{nameIndex, indexFrom}
 use native.Mathlib.Omega.{arith}

@@ -1,3 +1,4 @@
+-- The section's offset and the start, added up, are the place in the file where the part begins.
 use native.Mathlib.Omega.{arith}
 use Rattle.text.proofs.Lookups.{part-at}
 use Rattle.digits.proofs.Leaves.{leaf-as}

@@ -1,3 +1,4 @@
+-- What is left of the list from i on has the number just where the whole has it; entry i is the number, or may be passed.
 use Rattle.text.proofs.Lookups.{among-here, among-next, among-end}
 use Rattle.definition.specs.Lists.{among}
 use lib.ListN.{length, drop}

@@ -1,3 +1,4 @@
+-- An argument's register is one of the sixteen, and what it names is version 0 of it.
 use Rattle.values.proofs.Reading.{arg-is}
 use Rattle.values.proofs.Registers.{arg-small}
 use native.Mathlib.Omega.{arith}

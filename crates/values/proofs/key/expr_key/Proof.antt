@@ -1,3 +1,4 @@
+-- Only a Use names a value, of a register that is one of the sixteen as all that the file names; any other tag has key 0.
 use Rattle.values.proofs.Reading.{use-is, use-none}
 use Rattle.values.proofs.Registers.{use-small}
 use native.Mathlib.Omega.{arith}

@@ -1,3 +1,4 @@
+-- An input is a version of its phi's register, which is one of the sixteen; the key is made of the two.
 use Rattle.values.proofs.Reading.{input-is}
 use Rattle.values.proofs.Registers.{phi-small}
 use native.Mathlib.Omega.{arith}

@@ -1,3 +1,4 @@
+-- An item among the expressions has key 0; one behind them is a value, whose register is one of the sixteen.
 use Rattle.values.proofs.Reading.{item-is, item-none, item-register}
 use borrow.Author.Needs.{needs}
 use Rattle.values.proofs.key.item_key.Statement.{statement}

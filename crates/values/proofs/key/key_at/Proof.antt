@@ -1,3 +1,4 @@
+-- By the section: the four in which each record is one place have each their key, and any other falls through every test to 0.
 use Rattle.values.proofs.Reading.{section-size, of-args, of-phis, of-stmts, of-exprs, of-none}
 use Rattle.values.proofs.key.key_at.Statement.{statement}
 use Rattle.values.proofs.key.key_at.Tie as tie

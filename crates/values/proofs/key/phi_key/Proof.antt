@@ -1,3 +1,4 @@
+-- Word 0 of the phi is its register, one of the sixteen, and word 1 its version; the key is made of the two.
 use Rattle.values.proofs.Reading.{phi-is}
 use Rattle.values.proofs.Registers.{phi-small}
 use native.Mathlib.Omega.{arith}

@@ -1,3 +1,4 @@
+-- An Assign has the key of what it defines, a Call that returns that of its result, both of the sixteen registers; all else has 0.
 use Rattle.values.proofs.Reading.{assign-is, call-is, stmt-none, call-none}
 use Rattle.values.proofs.Registers.{assign-small, return-small}
 use native.Mathlib.Omega.{arith}

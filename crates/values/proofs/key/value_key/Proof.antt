@@ -1,3 +1,4 @@
+-- With a register below 16 the key is at most 2^36, so that nothing overflows, and it is the definition's formula as it stands.
 use Rattle.values.proofs.Reading.{key-is}
 use borrow.Author.Needs.{needs}
 use Rattle.values.proofs.key.value_key.Statement.{statement}

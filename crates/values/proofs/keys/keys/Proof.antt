@@ -1,3 +1,4 @@
+-- Each list is laid where those before it end, as the owners' counts come out; all six laid into zeros are the table of keys.
 use Rattle.values.proofs.Laying.{keys-all, places-near, inputs-few}
 use Rattle.records.proofs.Items.{items-few}
 use borrow.Author.Needs.{needs}

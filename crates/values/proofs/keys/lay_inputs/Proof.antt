@@ -1,3 +1,4 @@
+-- The inputs of the phis from i on are left to lay; they begin behind those of the phis before, whose count is carried along.
 use borrow.Author.Needs.{needs}
 use native.Mathlib.Omega.{arith}
 use mathlib.Core.Path.{_≡_, refl, sym, _∙_}

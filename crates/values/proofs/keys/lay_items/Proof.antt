@@ -1,3 +1,4 @@
+-- The items of the statements from i on are left to lay; they begin behind those of the statements before, whose count is carried along.
 use borrow.Author.Needs.{needs}
 use native.Mathlib.Omega.{arith}
 use mathlib.Core.Path.{_≡_, refl, sym, _∙_}

@@ -1,3 +1,4 @@
+-- Laying the keys of the records from i on gives at every turn the table that laying all of them gives; at the end none is left.
 use borrow.Author.Needs.{needs}
 use native.Mathlib.Omega.{arith}
 use mathlib.Core.Path.{_≡_, refl, _∙_}

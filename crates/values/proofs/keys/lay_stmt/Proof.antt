@@ -1,3 +1,4 @@
+-- The items of a statement are zeros for its expressions, then keys; laying them from the j-th on gives what laying all gives.
 use borrow.Author.Needs.{needs}
 use native.Mathlib.Omega.{arith}
 use mathlib.Core.Path.{_≡_, refl, _∙_}

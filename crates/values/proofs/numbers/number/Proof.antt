@@ -1,3 +1,4 @@
+-- Key 0 has number 0; where the walk ends at a place it is the key's first; else place i is, and heads its chain from now on.
 use native.Mathlib.Omega.{arith}
 use mathlib.Core.Path.{refl}
 use Rattle.values.proofs.Chaining.{number-zero, number-found, number-new}

@@ -1,3 +1,4 @@
+-- The places below i have their numbers, and the chains find each key whose first place is below i; a turn numbers place i.
 use native.Mathlib.Omega.{arith}
 use borrow.Author.Needs.{needs}
 use mathlib.Core.Path.{_≡_, refl, _∙_}

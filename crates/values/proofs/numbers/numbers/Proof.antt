@@ -1,3 +1,4 @@
+-- Cleared heads are empty chains, from which every place gets its number; then both tables, as long as before, are cleared.
 use native.Mathlib.Omega.{arith}
 use mathlib.Core.Path.{ap, _∙_}
 use Prim.Native.Nat.{ℕ}

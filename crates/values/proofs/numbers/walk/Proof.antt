@@ -1,3 +1,4 @@
+-- From x on the walk finds what it finds from the top on; it ends at the key, at no place or at one not lower, else x falls.
 use native.Mathlib.Omega.{arith}
 use borrow.Author.Needs.{needs}
 use mathlib.Core.Path.{_≡_, refl, _∙_, sym}

@@ -1,3 +1,4 @@
+-- Each section's places begin where those of the section before it end, so that they are sums of the sizes, as in the definition.
 use Rattle.values.proofs.Reading.{places-are}
 use borrow.Author.Needs.{needs}
 use Rattle.values.proofs.places.places_of.Statement.{statement}

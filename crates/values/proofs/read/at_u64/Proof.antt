@@ -1,3 +1,4 @@
+-- Inside a table of 64-bit numbers the entry is read; outside the answer is 0, as the definition has it.
 use Rattle.values.proofs.Reading.{at-in, at-out}
 use borrow.Author.Needs.{needs}
 use Rattle.values.proofs.read.at_u64.Statement.{statement}

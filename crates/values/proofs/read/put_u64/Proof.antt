@@ -1,3 +1,4 @@
+-- Inside a table of 64-bit numbers the entry is written; outside nothing is, and setting a place there changes no list.
 use Rattle.values.proofs.Reading.{put-out}
 use borrow.Author.Needs.{needs}
 use Rattle.values.proofs.read.put_u64.Statement.{statement}

@@ -1,3 +1,4 @@
+-- The list of sections is as long as the edition's count of them, so the contents have 16 bytes and 8 for each.
 use Rattle.records.proofs.Editions.{contents-is}
 use borrow.Author.Needs.{needs}
 use Rattle.records.proofs.edition.Edition.contents.Statement.{statement}

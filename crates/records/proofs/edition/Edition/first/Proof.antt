@@ -1,3 +1,4 @@
+-- Read as the definition's, these numbers are edition 1: nine sections are taken from the tables, and their tenth entries are not.
 use mathlib.Core.Path.{refl}
 use Rattle.records.specs.Editions.{editionOf, wordsAt, limitAt}
 use Rattle.definition.specs.Lists.{range}

@@ -1,3 +1,4 @@
+-- Below ten the entry of the table of limits is read; from ten on the answer is 0, as the definition has it.
 use Rattle.records.proofs.Editions.{within, past}
 use Rattle.records.specs.Editions.{limitAt}
 use native.Mathlib.Omega.{arith}

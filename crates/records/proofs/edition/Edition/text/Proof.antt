@@ -1,3 +1,4 @@
+-- The text is the last section: one less than their count, which for no sections is 0, as the definition subtracts.
 use Rattle.records.proofs.Editions.{text-is}
 use native.Mathlib.Omega.{arith}
 use borrow.Author.Needs.{needs}

@@ -1,3 +1,4 @@
+-- The record that is made is the definition's fresh one: nothing is written and it is not full.
 use Rattle.room.specs.Blank.{fresh}
 use mathlib.Core.Path.{refl}
 use Rattle.room.proofs.out.Out.start.Statement.{statement}

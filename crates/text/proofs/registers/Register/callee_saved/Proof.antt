@@ -1,3 +1,4 @@
+-- A register is preserved where it is among the eight of the list, which is the definition's.
 use Rattle.definition.specs.Registers.{calleeSaved}
 use borrow.Author.Needs.{needs}
 use Rattle.text.proofs.registers.Register.callee_saved.Statement.{statement}
