@@ -1,13 +1,7 @@
 //! The exported pieces of the printer, each by itself, for comparisons with the Rust.
 
 extern "C" {
-    fn sorkhelaw_num(dst: *mut u8, len: usize, bits: u64) -> u64;
-    fn sorkhelaw_slot(dst: *mut u8, len: usize, s: u64) -> u64;
-    fn sorkhelaw_label(dst: *mut u8, len: usize, a: u64) -> u64;
-    fn sorkhelaw_outward(dst: *mut u8, len: usize, a: u64) -> u64;
-    fn sorkhelaw_pointer(dst: *mut u8, len: usize, size: u32) -> u64;
-    fn sorkhelaw_register(dst: *mut u8, len: usize, bits: u32, v: u32) -> u64;
-    fn sorkhelaw_global(dst: *mut u8, len: usize, file: *const u8, file_len: usize, t: u32, c: u64, size: u32) -> u64;
+    fn sorkhelaw_write(dst: *mut u8, len: usize, file: *const u8, file_len: usize, which: u32, a: u64, b: u32, c: u32) -> u64;
 }
 
 /// A writer with its operands.
@@ -29,19 +23,23 @@ const TEXT: u32 = 8;
 impl Writer<'_> {
     /// How many bytes were written at the beginning of `dst`, or none where they do not fit.
     pub fn write(self, dst: &mut [u8]) -> Option<usize> {
-        let (d, n) = (dst.as_mut_ptr(), dst.len());
-        // The contracts ask nothing of the slices, and all are Rust's own.
-        let wrote = unsafe {
-            match self {
-                Writer::Num(v) => sorkhelaw_num(d, n, v as u64),
-                Writer::Slot(off) => sorkhelaw_slot(d, n, (off as u64).wrapping_add(1 << 63)),
-                Writer::Label(a) => sorkhelaw_label(d, n, a),
-                Writer::Outward(a) => sorkhelaw_outward(d, n, a),
-                Writer::Pointer(size) => sorkhelaw_pointer(d, n, size.into()),
-                Writer::Register { bits, number } => sorkhelaw_register(d, n, bits, number),
-                Writer::Global { file, address, size } => sorkhelaw_global(d, n, file.as_ptr(), file.len(), TEXT, address, size.into()),
-            }
-        };
+        let (which, a, b, c) = self.numbers();
+        let file: &[u8] = if let Writer::Global { file, .. } = self { file } else { &[] };
+        // The contract asks nothing of the slices, and both are Rust's own.
+        let wrote = unsafe { sorkhelaw_write(dst.as_mut_ptr(), dst.len(), file.as_ptr(), file.len(), which, a, b, c) };
         (wrote != u64::MAX).then_some(wrote as usize)
+    }
+
+    /// The writer's number, and its operands as `probe::piece_of` reads them.
+    fn numbers(self) -> (u32, u64, u32, u32) {
+        match self {
+            Writer::Num(v) => (0, v as u64, 0, 0),
+            Writer::Slot(off) => (1, (off as u64).wrapping_add(1 << 63), 0, 0),
+            Writer::Label(a) => (2, a, 0, 0),
+            Writer::Outward(a) => (3, a, 0, 0),
+            Writer::Pointer(size) => (4, 0, size.into(), 0),
+            Writer::Register { bits, number } => (5, 0, bits, number),
+            Writer::Global { address, size, .. } => (6, address, TEXT, size.into()),
+        }
     }
 }

@@ -92,7 +92,8 @@ fn write_made(dst: &mut [u8], m: Made) -> Wrote
     }
 }
 
-fn write(dst: &mut [u8], f: &[u8], p: Piece) -> Wrote
+// The piece's text at the beginning of dst.
+pub fn write(dst: &mut [u8], f: &[u8], p: Piece) -> Wrote
     ensures { λ r. ⌜ Leaf (spelled (now (f .entry)) p) (now (dst .entry)) r (now (dst .exit)) ⌝ }
 {
     match p {

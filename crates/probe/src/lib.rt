@@ -1,20 +1,16 @@
-// What a comparison with the Rust runs piece by piece: the writers and the structuring passes, exported.
+// What a comparison with the Rust runs piece by piece: the writer of pieces and the structuring passes, exported.
 pub mod structuring;
 
 use digits::leaf::Wrote;
-use digits::numbers::label;
-use digits::numbers::num;
-use digits::numbers::outward;
-use digits::numbers::pointer;
-use digits::numbers::slot;
-use text::names::global_name;
-use text::registers::reg_name;
+use pieces::piece::Global;
+use pieces::piece::Made;
+use pieces::piece::Named;
+use pieces::piece::Piece;
+use pieces::piece::write;
 ghost use mathlib.Core.Path.{_≡_};
-ghost use Rattle.definition.specs.Numbers.{num as numOf, slot as slotOf, label as labelOf, outward as outwardOf};
-ghost use Rattle.definition.specs.Registers.{regName};
-ghost use Rattle.definition.specs.Render.{pointer as pointerOf};
-ghost use Rattle.text.specs.Supplied.{globalText};
+ghost use Rattle.pieces.specs.Spelled.{spelled};
 ghost use Rattle.probe.specs.Counted.{countOf, Counted};
+ghost use Rattle.probe.specs.Chosen.{pieceOf};
 
 // How many bytes were written, or the last number of 64 bits where there was no room.
 fn count_of(w: Wrote) -> u64
@@ -26,52 +22,36 @@ fn count_of(w: Wrote) -> u64
     }
 }
 
-#[no_mangle]
-pub extern "C" fn sorkhelaw_num(dst: &mut [u8], bits: u64) -> u64
-    ensures { λ r. ⌜ Counted (numOf bits) (now (dst .entry)) r (now (dst .exit)) ⌝ }
+// A piece by its number and operands, for a host that has no such type.
+fn piece_of(which: u32, a: u64, b: u32, c: u32) -> Piece
+    ensures { λ r. ⌜ r ≡ pieceOf which a b c ⌝ }
 {
-    count_of(num(dst, bits))
+    match which {
+        0 => Piece::Made(Made::Num(a)),
+        1 => Piece::Made(Made::Slot(a)),
+        2 => Piece::Made(Made::Label(a)),
+        3 => Piece::Made(Made::Outward(a)),
+        4 => Piece::Made(Made::Pointer(b)),
+        5 => Piece::Made(Made::Register(Named { bits: b, reg: c })),
+        _ => Piece::Global(Global {
+            t: b,
+            c: a,
+            size: c,
+        }),
+    }
 }
 
+// The text of a piece; a global's name stands in the file.
 #[no_mangle]
-pub extern "C" fn sorkhelaw_slot(dst: &mut [u8], s: u64) -> u64
-    ensures { λ r. ⌜ Counted (slotOf s) (now (dst .entry)) r (now (dst .exit)) ⌝ }
+pub extern "C" fn sorkhelaw_write(
+    dst: &mut [u8],
+    f: &[u8],
+    which: u32,
+    a: u64,
+    b: u32,
+    c: u32,
+) -> u64
+    ensures { λ r. ⌜ Counted (spelled (now (f .entry)) (pieceOf which a b c)) (now (dst .entry)) r (now (dst .exit)) ⌝ }
 {
-    count_of(slot(dst, s))
-}
-
-#[no_mangle]
-pub extern "C" fn sorkhelaw_label(dst: &mut [u8], a: u64) -> u64
-    ensures { λ r. ⌜ Counted (labelOf a) (now (dst .entry)) r (now (dst .exit)) ⌝ }
-{
-    count_of(label(dst, a))
-}
-
-#[no_mangle]
-pub extern "C" fn sorkhelaw_outward(dst: &mut [u8], a: u64) -> u64
-    ensures { λ r. ⌜ Counted (outwardOf a) (now (dst .entry)) r (now (dst .exit)) ⌝ }
-{
-    count_of(outward(dst, a))
-}
-
-#[no_mangle]
-pub extern "C" fn sorkhelaw_pointer(dst: &mut [u8], size: u32) -> u64
-    ensures { λ r. ⌜ Counted (pointerOf size .text) (now (dst .entry)) r (now (dst .exit)) ⌝ }
-{
-    count_of(pointer(dst, size))
-}
-
-#[no_mangle]
-pub extern "C" fn sorkhelaw_register(dst: &mut [u8], bits: u32, v: u32) -> u64
-    ensures { λ r. ⌜ Counted (regName bits v) (now (dst .entry)) r (now (dst .exit)) ⌝ }
-{
-    count_of(reg_name(dst, bits, v))
-}
-
-// The global at c, in a file whose texts are in section t.
-#[no_mangle]
-pub extern "C" fn sorkhelaw_global(dst: &mut [u8], f: &[u8], t: u32, c: u64, size: u32) -> u64
-    ensures { λ r. ⌜ Counted (globalText (now (f .entry)) t c size) (now (dst .entry)) r (now (dst .exit)) ⌝ }
-{
-    count_of(global_name(dst, f, t, c, size))
+    count_of(write(dst, f, piece_of(which, a, b, c)))
 }
