@@ -30,7 +30,7 @@ use Rattle.render.specs.declared.form.Form.{Form}
 use Rattle.render.specs.declared.form.Form.the-variants.{Leaf, Use, Bin, Un, Through}
 use Rattle.render.specs.Gens.{rendered, used}
 use Rattle.render.specs.Told.{NamedAt}
-use Rattle.render.specs.Forms.{renderedBelow, castTokens, opening, closing, leafTokens, formTokens, formOf}
+use Rattle.render.specs.Forms.{renderedBelow, castTokens, paren, leafTokens, formTokens, formOf}
 use Rattle.render.proofs.Formed.{below-past, below-in, below-all, form-is, use-form}
 use Rattle.render.proofs.Valued.{use-value, use-named}
 
@@ -39,19 +39,19 @@ unfolding isFull
 stays k b o ps e = full-stays (roomOf k b o) ps e
 
 -- ---- the form's own pieces and its children's
-parted : (top : Bool) (a b : List Token) (o : Token) → opening top ++ (a ++ ((o ∷ []) ++ (b ++ closing top))) ≡ nested top (a ++ (o ∷ b))
-unfolding opening closing nested
+parted : (top : Bool) (a b : List Token) (o : Token) → paren top (txt "(") ++ (a ++ ((o ∷ []) ++ (b ++ paren top (txt ")")))) ≡ nested top (a ++ (o ∷ b))
+unfolding paren nested
 parted true a b o = ap (λ (l : List Token). a ++ (o ∷ l)) (append-nil b)
-parted false a b o = ap (λ (l : List Token). punct (txt "(") ∷ l) (sym (append-assoc a (o ∷ b) (closing false)))
+parted false a b o = ap (λ (l : List Token). punct (txt "(") ∷ l) (sym (append-assoc a (o ∷ b) (paren false (txt ")"))))
 
 module _ (f : List ℕ) (t pos n : ℕ) where
   -- the child x is written from one room to the next
   abbrev Child : Bool → ℕ → Room → Room → Type 0
   Child top x r₀ r₁ = (E : Edition) → text E ≡ t → seen r₁ ≡ seen (emitAll r₀ (renderedBelow E f pos n top x))
 
-  pub binary-is : (r₅ r₄ r₃ r₂ r₁ r₀ : Room) (top : Bool) (s : BinS) → seen r₁ ≡ seen (emitAll r₀ (opening top)) → Child false (s .left) r₁ r₂
+  pub binary-is : (r₅ r₄ r₃ r₂ r₁ r₀ : Room) (top : Bool) (s : BinS) → seen r₁ ≡ seen (emitAll r₀ (paren top (txt "("))) → Child false (s .left) r₁ r₂
       → ((E : Edition) → text E ≡ t → seen r₃ ≡ seen (emitAll r₂ (operator (textAt E f (s .op .start) (s .op .len)) ∷ [])))
-      → Child false (s .right) r₃ r₄ → seen r₅ ≡ seen (emitAll r₄ (closing top))
+      → Child false (s .right) r₃ r₄ → seen r₅ ≡ seen (emitAll r₄ (paren top (txt ")")))
       → (E : Edition) → text E ≡ t → seen r₅ ≡ seen (emitAll r₀ (formTokens E f pos n top (Bin s)))
   unfolding formTokens
   binary-is r₅ r₄ r₃ r₂ r₁ r₀ top s a b o d e E z =
@@ -64,9 +64,9 @@ module _ (f : List ℕ) (t pos n : ℕ) where
   unary-is r₂ r₁ r₀ top s a b E z = rw z (next r₂ r₀ _ _ a (b E z))
 
   pub through-is : (r₃ r₂ r₁ r₀ : Room) (top : Bool) (s : LoadS) → seen r₁ ≡ seen (emitAll r₀ (castTokens (s .size))) → Child true (s .child) r₁ r₂
-      → seen r₃ ≡ seen (emitAll r₂ (closing false))
+      → seen r₃ ≡ seen (emitAll r₂ (paren false (txt ")")))
       → (E : Edition) → text E ≡ t → seen r₃ ≡ seen (emitAll r₀ (formTokens E f pos n top (Through s)))
-  unfolding formTokens castTokens closing through
+  unfolding formTokens castTokens paren through
   through-is r₃ r₂ r₁ r₀ top s a b d E z = more r₃ r₁ r₀ _ _ a (more r₃ r₂ r₁ _ _ (b E z) d)
 
 -- ---- an expression, by its form x

@@ -17,28 +17,20 @@ use Rattle.room.proofs.Laws.{next, done, joined, one}
 use Rattle.render.specs.declared.form.Leaf.{Leaf}
 use Rattle.render.specs.declared.form.Leaf.the-variants.{Number, Address, Global, Slot, Opaque}
 use Rattle.render.specs.declared.form.Global.{Global as GlobalS}
-use Rattle.render.specs.Forms.{addressTokens, castTokens, opening, closing, leafTokens}
+use Rattle.render.specs.Forms.{addressTokens, castTokens, paren, leafTokens}
 
 two : (r₂ r₁ r₀ : Room) (p q : Token) → r₁ ≡ emit r₀ p → r₂ ≡ emit r₁ q → seen r₂ ≡ seen (emitAll r₀ (p ∷ q ∷ []))
 two r₂ r₁ r₀ p q d e = next r₂ r₀ p (q ∷ []) d (one r₂ r₁ q e)
 
 -- ---- parentheses
-pub open-top : (r : Room) (top : Bool) → top ≡ true → seen r ≡ seen (emitAll r (opening top))
-unfolding opening
-open-top r top e = rw e (done r)
-
-pub close-top : (r : Room) (top : Bool) → top ≡ true → seen r ≡ seen (emitAll r (closing top))
-unfolding closing
-close-top r top e = rw e (done r)
+pub paren-top : (r : Room) (top : Bool) (s : List ℕ) → top ≡ true → seen r ≡ seen (emitAll r (paren top s))
+unfolding paren
+paren-top r top s e = rw e (done r)
 
 module _ (r₁ r₀ : Room) where
-  pub open-in : (top : Bool) → top ≡ false → r₁ ≡ emit r₀ (tok 6 (txt "(")) → seen r₁ ≡ seen (emitAll r₀ (opening top))
-  unfolding opening
-  open-in top e p = rw e (one r₁ r₀ _ p)
-
-  pub close-in : (top : Bool) → top ≡ false → r₁ ≡ emit r₀ (tok 6 (txt ")")) → seen r₁ ≡ seen (emitAll r₀ (closing top))
-  unfolding closing
-  close-in top e p = rw e (one r₁ r₀ _ p)
+  pub paren-in : (top : Bool) (s : List ℕ) → top ≡ false → r₁ ≡ emit r₀ (tok 6 s) → seen r₁ ≡ seen (emitAll r₀ (paren top s))
+  unfolding paren
+  paren-in top s e p = rw e (one r₁ r₀ _ p)
 
   -- a text of the file
   pub text-put : (f : List ℕ) (k t o : ℕ) (x : Text) → o ≡ offset f t → r₁ ≡ emit r₀ (tok k (part f (o + x .start) (x .len)))

@@ -45,14 +45,10 @@ addressTokens s = punct (txt "&") ∷ register (slot s) ∷ []
 unfoldable pub castTokens : ℕ → List Token
 castTokens n = pointer n ∷ punct (txt "(") ∷ []
 
--- the parentheses of `nested`
-unfoldable pub opening : Bool → List Token
-opening true = []
-opening false = punct (txt "(") ∷ []
-
-unfoldable pub closing : Bool → List Token
-closing true = []
-closing false = punct (txt ")") ∷ []
+-- a parenthesis of `nested`
+unfoldable pub paren : Bool → List ℕ → List Token
+paren true s = []
+paren false s = punct s ∷ []
 
 unfoldable pub leafTokens : Edition → List ℕ → LeafS → List Token
 leafTokens E f (Number c) = numeral (num c) ∷ []

@@ -6,10 +6,9 @@ use crate::form::form_of;
 use crate::leaves::PUNCT;
 use crate::leaves::put_address;
 use crate::leaves::put_cast;
-use crate::leaves::put_closing;
 use crate::leaves::put_leaf;
 use crate::leaves::put_nothing;
-use crate::leaves::put_opening;
+use crate::leaves::put_paren;
 use crate::leaves::put_text;
 use crate::operators::put_operator;
 use meaning::meaning::bits_of;
@@ -174,11 +173,11 @@ fn binary(
         n: s.right,
         top: false,
     };
-    let out = put_opening(tokens, text, out, at.top);
+    let out = put_paren(tokens, text, out, at.top, b"(");
     let out = below(tokens, text, out, f, numbers, offs, placed, names, left);
     let out = put_operator(tokens, text, out, f, at.t, s.op);
     let out = below(tokens, text, out, f, numbers, offs, placed, names, right);
-    put_closing(tokens, text, out, at.top)
+    put_paren(tokens, text, out, at.top, b")")
 }
 
 // The operator, and the operand behind it.
@@ -241,7 +240,7 @@ fn through(
     };
     let out = put_cast(tokens, text, out, s.size);
     let out = below(tokens, text, out, f, numbers, offs, placed, names, child);
-    put_closing(tokens, text, out, false)
+    put_paren(tokens, text, out, false, b")")
 }
 
 // The value of register `reg` that stands at `place` of the file.

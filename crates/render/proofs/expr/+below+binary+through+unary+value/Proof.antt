@@ -31,10 +31,9 @@ use Rattle.render.proofs.expr.is_open.Reads as is-open-reads
 use Rattle.render.proofs.form.form_of.Reads as form-of-reads
 use Rattle.render.proofs.leaves.put_address.Reads as put-address-reads
 use Rattle.render.proofs.leaves.put_cast.Reads as put-cast-reads
-use Rattle.render.proofs.leaves.put_closing.Reads as put-closing-reads
 use Rattle.render.proofs.leaves.put_leaf.Reads as put-leaf-reads
 use Rattle.render.proofs.leaves.put_nothing.Reads as put-nothing-reads
-use Rattle.render.proofs.leaves.put_opening.Reads as put-opening-reads
+use Rattle.render.proofs.leaves.put_paren.Reads as put-paren-reads
 use Rattle.render.proofs.leaves.put_text.Reads as put-text-reads
 use Rattle.render.proofs.operators.put_operator.Reads as put-operator-reads
 use Rattle.values.proofs.read.at_u32.Reads as at-u32-reads
@@ -681,109 +680,113 @@ below-returns-7 : (t : ℕ) → below-lts.Need-returns-7 (
 ) (below-at t) below.Post
 below-returns-7 t c = below-form _ _ _ _ _ _ (c .before .before .before .before .before .before .before .before .before .before .before .before .before .before .before .before .before .before .before .before .before .before .pre .1 .1) (c .before .before .before .before .before .before .before .before .before .before .before .before .if2 .left) _ (c .before .before .before .before .before .before .before .before .before .before .form-of .ensures) _ _ _ (c .before .before .before .before .before .before .before .before .s3 .given .1) (c .before .before .before .before .through .ensures)
 
-binary-put-opening-requires : (t : ℕ) → binary-lts.Need-put-opening-requires (
-  put-opening-reads.Asked,
-  put-opening-reads.Learnt,
+binary-slice-aggregate-put-paren : (t : ℕ) → binary-lts.Need-slice-aggregate-put-paren (
+  put-paren-reads.Asked,
+  put-paren-reads.Learnt,
   below-below t,
   below.Post,
   put-operator-reads.Asked,
   put-operator-reads.Learnt,
-  put-closing-reads.Asked,
-  put-closing-reads.Learnt,
 ) (binary-at t) binary.Post
-binary-put-opening-requires t c κs = search needs
+binary-slice-aggregate-put-paren t c = search needs
+
+binary-put-paren-requires : (t : ℕ) → binary-lts.Need-put-paren-requires (
+  put-paren-reads.Asked,
+  put-paren-reads.Learnt,
+  below-below t,
+  below.Post,
+  put-operator-reads.Asked,
+  put-operator-reads.Learnt,
+) (binary-at t) binary.Post
+binary-put-paren-requires t c κs = search needs
 
 binary-below-requires : (t : ℕ) → binary-lts.Need-below-requires (
-  put-opening-reads.Asked,
-  put-opening-reads.Learnt,
+  put-paren-reads.Asked,
+  put-paren-reads.Learnt,
   below-below t,
   below.Post,
   put-operator-reads.Asked,
   put-operator-reads.Learnt,
-  put-closing-reads.Asked,
-  put-closing-reads.Learnt,
 ) (binary-at t) binary.Post
-binary-below-requires t c κs = (falls-child _ _ _ (c .before .before .before .before .before .before .before .before .before .before .before .before .before .before .before .before .before .pre .0), c .before .before .before .before .before .before .before .before .before .before .before .before .before .before .before .before .before .pre .1)
+binary-below-requires t c κs = (falls-child _ _ _ (c .before .before .before .before .before .before .before .before .before .before .before .before .before .before .before .before .before .before .pre .0), c .before .before .before .before .before .before .before .before .before .before .before .before .before .before .before .before .before .before .pre .1)
 
 binary-put-operator-requires : (t : ℕ) → binary-lts.Need-put-operator-requires (
-  put-opening-reads.Asked,
-  put-opening-reads.Learnt,
+  put-paren-reads.Asked,
+  put-paren-reads.Learnt,
   below-below t,
   below.Post,
   put-operator-reads.Asked,
   put-operator-reads.Learnt,
-  put-closing-reads.Asked,
-  put-closing-reads.Learnt,
 ) (binary-at t) binary.Post
 binary-put-operator-requires t c κs = search needs
 
 binary-below-requires-2 : (t : ℕ) → binary-lts.Need-below-requires-2 (
-  put-opening-reads.Asked,
-  put-opening-reads.Learnt,
+  put-paren-reads.Asked,
+  put-paren-reads.Learnt,
   below-below t,
   below.Post,
   put-operator-reads.Asked,
   put-operator-reads.Learnt,
-  put-closing-reads.Asked,
-  put-closing-reads.Learnt,
 ) (binary-at t) binary.Post
-binary-below-requires-2 t c κs = (falls-child _ _ _ (c .before .before .before .before .before .before .before .before .before .before .before .before .before .before .before .before .before .before .before .before .before .before .before .before .before .before .before .before .before .before .before .pre .0), c .before .before .before .before .before .before .before .before .before .before .before .before .before .before .before .before .before .before .before .before .before .before .before .before .before .before .before .before .before .before .before .pre .1)
+binary-below-requires-2 t c κs = (falls-child _ _ _ (c .before .before .before .before .before .before .before .before .before .before .before .before .before .before .before .before .before .before .before .before .before .before .before .before .before .before .before .before .before .before .before .before .pre .0), c .before .before .before .before .before .before .before .before .before .before .before .before .before .before .before .before .before .before .before .before .before .before .before .before .before .before .before .before .before .before .before .before .pre .1)
 
-binary-put-closing-requires : (t : ℕ) → binary-lts.Need-put-closing-requires (
-  put-opening-reads.Asked,
-  put-opening-reads.Learnt,
+binary-slice-aggregate-put-paren-2 : (t : ℕ) → binary-lts.Need-slice-aggregate-put-paren-2 (
+  put-paren-reads.Asked,
+  put-paren-reads.Learnt,
   below-below t,
   below.Post,
   put-operator-reads.Asked,
   put-operator-reads.Learnt,
-  put-closing-reads.Asked,
-  put-closing-reads.Learnt,
 ) (binary-at t) binary.Post
-binary-put-closing-requires t c κs = search needs
+binary-slice-aggregate-put-paren-2 t c = search needs
+
+binary-put-paren-requires-2 : (t : ℕ) → binary-lts.Need-put-paren-requires-2 (
+  put-paren-reads.Asked,
+  put-paren-reads.Learnt,
+  below-below t,
+  below.Post,
+  put-operator-reads.Asked,
+  put-operator-reads.Learnt,
+) (binary-at t) binary.Post
+binary-put-paren-requires-2 t c κs = search needs
 
 binary-same-length : (t : ℕ) → binary-lts.Need-same-length (
-  put-opening-reads.Asked,
-  put-opening-reads.Learnt,
+  put-paren-reads.Asked,
+  put-paren-reads.Learnt,
   below-below t,
   below.Post,
   put-operator-reads.Asked,
   put-operator-reads.Learnt,
-  put-closing-reads.Asked,
-  put-closing-reads.Learnt,
 ) (binary-at t) binary.Post
-binary-same-length t c = c .before .before .before .before .put-closing .kept .0 ∙ c .before .before .before .before .before .before .before .before .before .before .before .below2 .kept .0 ∙ c .before .before .before .before .before .before .before .before .before .before .before .before .before .before .before .before .before .before .put-operator .kept .0 ∙ c .before .before .before .before .before .before .before .before .before .before .before .before .before .before .before .before .before .before .before .before .before .before .before .before .before .below .kept .0 ∙ c .before .before .before .before .before .before .before .before .before .before .before .before .before .before .before .before .before .before .before .before .before .before .before .before .before .before .before .before .before .before .before .before .put-opening .kept .0
+binary-same-length t c = c .before .before .before .before .put-paren2 .kept .0 ∙ c .before .before .before .before .before .before .before .before .before .before .before .before .below2 .kept .0 ∙ c .before .before .before .before .before .before .before .before .before .before .before .before .before .before .before .before .before .before .before .put-operator .kept .0 ∙ c .before .before .before .before .before .before .before .before .before .before .before .before .before .before .before .before .before .before .before .before .before .before .before .before .before .before .below .kept .0 ∙ c .before .before .before .before .before .before .before .before .before .before .before .before .before .before .before .before .before .before .before .before .before .before .before .before .before .before .before .before .before .before .before .before .before .put-paren .kept .0
 
 binary-same-length-2 : (t : ℕ) → binary-lts.Need-same-length-2 (
-  put-opening-reads.Asked,
-  put-opening-reads.Learnt,
+  put-paren-reads.Asked,
+  put-paren-reads.Learnt,
   below-below t,
   below.Post,
   put-operator-reads.Asked,
   put-operator-reads.Learnt,
-  put-closing-reads.Asked,
-  put-closing-reads.Learnt,
 ) (binary-at t) binary.Post
-binary-same-length-2 t c = c .before .before .before .before .put-closing .kept .1 .0 ∙ c .before .before .before .before .before .before .before .before .before .before .before .below2 .kept .1 .0 ∙ c .before .before .before .before .before .before .before .before .before .before .before .before .before .before .before .before .before .before .put-operator .kept .1 .0 ∙ c .before .before .before .before .before .before .before .before .before .before .before .before .before .before .before .before .before .before .before .before .before .before .before .before .before .below .kept .1 .0 ∙ c .before .before .before .before .before .before .before .before .before .before .before .before .before .before .before .before .before .before .before .before .before .before .before .before .before .before .before .before .before .before .before .before .put-opening .kept .1 .0
+binary-same-length-2 t c = c .before .before .before .before .put-paren2 .kept .1 .0 ∙ c .before .before .before .before .before .before .before .before .before .before .before .before .below2 .kept .1 .0 ∙ c .before .before .before .before .before .before .before .before .before .before .before .before .before .before .before .before .before .before .before .put-operator .kept .1 .0 ∙ c .before .before .before .before .before .before .before .before .before .before .before .before .before .before .before .before .before .before .before .before .before .before .before .before .before .before .below .kept .1 .0 ∙ c .before .before .before .before .before .before .before .before .before .before .before .before .before .before .before .before .before .before .before .before .before .before .before .before .before .before .before .before .before .before .before .before .before .put-paren .kept .1 .0
 
 binary-returns : (t : ℕ) → binary-lts.Need-returns (
-  put-opening-reads.Asked,
-  put-opening-reads.Learnt,
+  put-paren-reads.Asked,
+  put-paren-reads.Learnt,
   below-below t,
   below.Post,
   put-operator-reads.Asked,
   put-operator-reads.Learnt,
-  put-closing-reads.Asked,
-  put-closing-reads.Learnt,
 ) (binary-at t) binary.Post
-binary-returns t c = binary-is _ _ _ _ _ _ _ _ _ _ _ _ (c .before .before .before .before .before .before .before .before .before .before .before .before .before .before .before .before .before .before .before .before .before .before .before .before .before .before .before .before .before .before .before .before .put-opening .ensures) (c .before .before .before .before .before .before .before .before .before .before .before .before .before .before .before .before .before .before .before .before .before .before .before .before .before .below .ensures) (c .before .before .before .before .before .before .before .before .before .before .before .before .before .before .before .before .before .before .put-operator .ensures) (c .before .before .before .before .before .before .before .before .before .before .before .below2 .ensures) (c .before .before .before .before .put-closing .ensures)
+binary-returns t c = binary-is _ _ _ _ _ _ _ _ _ _ _ _ (c .before .before .before .before .before .before .before .before .before .before .before .before .before .before .before .before .before .before .before .before .before .before .before .before .before .before .before .before .before .before .before .before .before .put-paren .ensures) (c .before .before .before .before .before .before .before .before .before .before .before .before .before .before .before .before .before .before .before .before .before .before .before .before .before .before .below .ensures) (c .before .before .before .before .before .before .before .before .before .before .before .before .before .before .before .before .before .before .before .put-operator .ensures) (c .before .before .before .before .before .before .before .before .before .before .before .before .below2 .ensures) (c .before .before .before .before .put-paren2 .ensures)
 
 through-put-cast-requires : (t : ℕ) → through-lts.Need-put-cast-requires (
   put-cast-reads.Asked,
   put-cast-reads.Learnt,
   below-below t,
   below.Post,
-  put-closing-reads.Asked,
-  put-closing-reads.Learnt,
+  put-paren-reads.Asked,
+  put-paren-reads.Learnt,
 ) (through-at t) through.Post
 through-put-cast-requires t c κs = search needs
 
@@ -792,28 +795,38 @@ through-below-requires : (t : ℕ) → through-lts.Need-below-requires (
   put-cast-reads.Learnt,
   below-below t,
   below.Post,
-  put-closing-reads.Asked,
-  put-closing-reads.Learnt,
+  put-paren-reads.Asked,
+  put-paren-reads.Learnt,
 ) (through-at t) through.Post
 through-below-requires t c κs = (falls-child _ _ _ (c .before .before .before .before .before .before .before .before .before .before .before .before .before .before .before .before .before .pre .0), c .before .before .before .before .before .before .before .before .before .before .before .before .before .before .before .before .before .pre .1)
 
-through-put-closing-requires : (t : ℕ) → through-lts.Need-put-closing-requires (
+through-slice-aggregate-put-paren : (t : ℕ) → through-lts.Need-slice-aggregate-put-paren (
   put-cast-reads.Asked,
   put-cast-reads.Learnt,
   below-below t,
   below.Post,
-  put-closing-reads.Asked,
-  put-closing-reads.Learnt,
+  put-paren-reads.Asked,
+  put-paren-reads.Learnt,
 ) (through-at t) through.Post
-through-put-closing-requires t c κs = search needs
+through-slice-aggregate-put-paren t c = search needs
+
+through-put-paren-requires : (t : ℕ) → through-lts.Need-put-paren-requires (
+  put-cast-reads.Asked,
+  put-cast-reads.Learnt,
+  below-below t,
+  below.Post,
+  put-paren-reads.Asked,
+  put-paren-reads.Learnt,
+) (through-at t) through.Post
+through-put-paren-requires t c κs = search needs
 
 through-same-length : (t : ℕ) → through-lts.Need-same-length (
   put-cast-reads.Asked,
   put-cast-reads.Learnt,
   below-below t,
   below.Post,
-  put-closing-reads.Asked,
-  put-closing-reads.Learnt,
+  put-paren-reads.Asked,
+  put-paren-reads.Learnt,
 ) (through-at t) through.Post
 through-same-length t c = search needs
 
@@ -822,8 +835,8 @@ through-same-length-2 : (t : ℕ) → through-lts.Need-same-length-2 (
   put-cast-reads.Learnt,
   below-below t,
   below.Post,
-  put-closing-reads.Asked,
-  put-closing-reads.Learnt,
+  put-paren-reads.Asked,
+  put-paren-reads.Learnt,
 ) (through-at t) through.Post
 through-same-length-2 t c = search needs
 
@@ -832,10 +845,10 @@ through-returns : (t : ℕ) → through-lts.Need-returns (
   put-cast-reads.Learnt,
   below-below t,
   below.Post,
-  put-closing-reads.Asked,
-  put-closing-reads.Learnt,
+  put-paren-reads.Asked,
+  put-paren-reads.Learnt,
 ) (through-at t) through.Post
-through-returns t c = through-is _ _ _ _ _ _ _ _ _ _ (c .before .before .before .before .before .before .before .before .before .before .before .before .before .before .before .before .before .before .put-cast .ensures) (c .before .before .before .before .before .before .before .before .before .before .before .below .ensures) (c .before .before .before .before .put-closing .ensures)
+through-returns t c = through-is _ _ _ _ _ _ _ _ _ _ (c .before .before .before .before .before .before .before .before .before .before .before .before .before .before .before .before .before .before .before .put-cast .ensures) (c .before .before .before .before .before .before .before .before .before .before .before .before .below .ensures) (c .before .before .before .before .put-paren .ensures)
 
 unary-put-text-requires : (t : ℕ) → unary-lts.Need-put-text-requires (
   put-text-reads.Asked,
@@ -1437,22 +1450,22 @@ pub +below+binary+through+unary+value-spec : {M : Type 1} → statement M
     (below-same-length-12 t)
     (below-returns-7 t))
     (λ t. binary-lts.spec (
-      put-opening-reads.Asked,
-      put-opening-reads.Learnt,
+      put-paren-reads.Asked,
+      put-paren-reads.Learnt,
       below-below t,
       below.Post,
       put-operator-reads.Asked,
       put-operator-reads.Learnt,
-      put-closing-reads.Asked,
-      put-closing-reads.Learnt,
     )
     (binary-at t)
     binary.Post
-    (binary-put-opening-requires t)
+    (binary-slice-aggregate-put-paren t)
+    (binary-put-paren-requires t)
     (binary-below-requires t)
     (binary-put-operator-requires t)
     (binary-below-requires-2 t)
-    (binary-put-closing-requires t)
+    (binary-slice-aggregate-put-paren-2 t)
+    (binary-put-paren-requires-2 t)
     (binary-same-length t)
     (binary-same-length-2 t)
     (binary-returns t))
@@ -1461,14 +1474,15 @@ pub +below+binary+through+unary+value-spec : {M : Type 1} → statement M
       put-cast-reads.Learnt,
       below-below t,
       below.Post,
-      put-closing-reads.Asked,
-      put-closing-reads.Learnt,
+      put-paren-reads.Asked,
+      put-paren-reads.Learnt,
     )
     (through-at t)
     through.Post
     (through-put-cast-requires t)
     (through-below-requires t)
-    (through-put-closing-requires t)
+    (through-slice-aggregate-put-paren t)
+    (through-put-paren-requires t)
     (through-same-length t)
     (through-same-length-2 t)
     (through-returns t))
