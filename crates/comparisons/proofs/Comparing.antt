@@ -1,5 +1,6 @@
 -- A range byte by byte: a count goes on by one byte, and the first place of a word is here or one further. What stands before that place, another
--- word, and what stands behind the first are the range with the word replaced.
+-- word, and what stands behind the first are the range with the word replaced. The first sign in the definition's order that a text contains says both
+-- whether it compares and what is flipped.
 use mathlib.Core.Path.{_≡_, refl, sym, ap, ap₂, _∙_}
 use mathlib.Core.Bool.{Bool, true, false, cond, false≢true}
 use mathlib.Core.Option.{Option, none, some}

@@ -23,6 +23,7 @@ flipOf Greater = nth 4 flips
 flipOf NotGreater = nth 5 flips
 flipOf Nothing = none
 
+-- the first whose sign s contains
 unfoldable pub firstIn : List Flip → List ℕ → Option Flip
 firstIn [] s = none
 firstIn (p ∷ ps) s = cond (contains (p .from) s) (some p) (firstIn ps s)

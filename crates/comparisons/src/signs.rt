@@ -91,7 +91,7 @@ pub fn compares(text: &[u8], from: usize, to: usize) -> bool
     true
 }
 
-// Where w first stands in the range, or the range's end.
+// Where w first stands in the range; where it does not, the range's end, or its start where that is behind the end.
 fn place_between(source: &[u8], from: usize, to: usize, w: &[u8]) -> usize
     ensures { λ r. ⌜ r ≡ from + placeOf (now (w .entry)) (between (now (source .entry)) from to) ⌝ }
 {

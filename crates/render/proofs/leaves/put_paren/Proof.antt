@@ -1,3 +1,4 @@
+-- At the top nothing is put; elsewhere the parenthesis given is the one piece.
 use Rattle.render.proofs.Written.{paren-top, paren-in}
 use borrow.Author.Needs.{needs}
 use Rattle.render.proofs.leaves.put_paren.Statement.{statement}
