@@ -34,7 +34,7 @@ same-length : tie.Need-same-length
 same-length c = search needs
 
 returns-2 : tie.Need-returns-2
-returns-2 c = let a = c .before .before .before .before .before .before .before .before .before .args in no-end (a .front .now) (numeral (a .x) (a .v)) _ _ refl _ _ (c .before .before .before .before .before .before .if1 .left) (c .before .before .before .before .digits .ensures) (cc)
+returns-2 c = let a = c .before .before .before .before .before .before .before .before .before .args in no-end (a .front .now) (numeral (a .x) (a .v)) _ _ refl _ _ (c .before .before .before .before .before .before .if1 .left) (c .before .before .before .before .digits .ensures) (c .enum-told .given .1)
 
 copy-requires : tie.Need-copy-requires
 copy-requires c κs = search needs
@@ -42,14 +42,14 @@ copy-requires c κs = search needs
 add-t7 : tie.Need-add-t7
 add-t7 c = let a = c .before .before .before .before .before .before .before .before .before .before .before .before .before .before .args in
     let k : length (a .front .now) + c .before .before .before .before .before .m .given .0 .0 ≤ length (a .dst .now) =
-    end-count (a .front .now) (numeral (a .x) (a .v)) (a .dst .now) _ refl _ _ _ (c .before .before .before .before .before .before .before .before .before .before .before .if1 .left) (c .before .before .before .before .before .before .before .before .before .digits .ensures) (cc) in
+    end-count (a .front .now) (numeral (a .x) (a .v)) (a .dst .now) _ refl _ _ _ (c .before .before .before .before .before .before .before .before .before .before .before .if1 .left) (c .before .before .before .before .before .before .before .before .before .digits .ensures) (c .before .before .before .before .before .m .given .1) in
     omega arith
 
 same-length-2 : tie.Need-same-length-2
 same-length-2 c = search needs
 
 returns-3 : tie.Need-returns-3
-returns-3 c = let a = c .before .before .before .before .before .before .before .before .before .before .before .before .before .before .args in both-fit (a .front .now) (numeral (a .x) (a .v)) _ _ refl _ _ _ _ _ (c .before .before .before .before .before .before .before .before .before .before .before .if1 .left) (c .before .before .before .before .before .before .before .before .before .digits .ensures) (cc) (c .before .before .copy .ensures)
+returns-3 c = let a = c .before .before .before .before .before .before .before .before .before .before .before .before .before .before .args in both-fit (a .front .now) (numeral (a .x) (a .v)) _ _ refl _ _ _ _ _ (c .before .before .before .before .before .before .before .before .before .before .before .if1 .left) (c .before .before .before .before .before .before .before .before .before .digits .ensures) (c .before .before .before .before .before .m .given .1) (c .before .before .copy .ensures)
 
 pub behind-spec : {M : Type 1} → statement M
 behind-spec =

@@ -51,7 +51,7 @@ same-length c = search needs
 
 returns-2 : tie.Need-returns-2
 returns-2 c = let n = c .before .before .before .before .before .before .before .before .before .before .args .size in
-    leaf-as (no-end (txt "*(uint" ++ numeral Decimal (8 * n)) (txt "_t *)") _ _ (pointer-size _ _ (c .before .before .before .before .before .before .before .before .width .ensures .0)) _ _ (c .before .before .before .before .before .before .before .if1 .left) (c .before .before .before .before .copy .ensures) (cc)) (pointer-is n)
+    leaf-as (no-end (txt "*(uint" ++ numeral Decimal (8 * n)) (txt "_t *)") _ _ (pointer-size _ _ (c .before .before .before .before .before .before .before .before .width .ensures .0)) _ _ (c .before .before .before .before .before .before .before .if1 .left) (c .before .before .before .before .copy .ensures) (c .enum-told .given .1)) (pointer-is n)
 
 slice-aggregate-behind : tie.Need-slice-aggregate-behind
 slice-aggregate-behind c = search needs
@@ -62,7 +62,7 @@ behind-requires c κs = search needs
 add-t9 : tie.Need-add-t9
 add-t9 c = let a = c .before .before .before .before .before .before .before .before .before .before .before .before .before .before .before .before .args in
     let k : 6 + c .before .before .before .before .before .before .before .before .before .before .before .before .before .before .width .result + c .before .before .before .before .before .before .m .given .0 .0 ≤ length (a .dst .now) =
-    end-count (txt "*(uint" ++ numeral Decimal (8 * a .size)) (txt "_t *)") (a .dst .now) _ (pointer-size _ _ (c .before .before .before .before .before .before .before .before .before .before .before .before .before .before .width .ensures .0)) _ _ _ (c .before .before .before .before .before .before .before .before .before .before .before .before .before .if1 .left) (c .before .before .before .before .before .before .before .before .before .before .copy .ensures) (cc) in
+    end-count (txt "*(uint" ++ numeral Decimal (8 * a .size)) (txt "_t *)") (a .dst .now) _ (pointer-size _ _ (c .before .before .before .before .before .before .before .before .before .before .before .before .before .before .width .ensures .0)) _ _ _ (c .before .before .before .before .before .before .before .before .before .before .before .before .before .if1 .left) (c .before .before .before .before .before .before .before .before .before .before .copy .ensures) (c .before .before .before .before .before .before .m .given .1) in
     omega arith
 
 same-length-2 : tie.Need-same-length-2
@@ -70,7 +70,7 @@ same-length-2 c = search needs
 
 returns-3 : tie.Need-returns-3
 returns-3 c = let n = c .before .before .before .before .before .before .before .before .before .before .before .before .before .before .before .before .args .size in
-    leaf-as (both-fit (txt "*(uint" ++ numeral Decimal (8 * n)) (txt "_t *)") _ _ (pointer-size _ _ (c .before .before .before .before .before .before .before .before .before .before .before .before .before .before .width .ensures .0)) _ _ _ _ _ (c .before .before .before .before .before .before .before .before .before .before .before .before .before .if1 .left) (c .before .before .before .before .before .before .before .before .before .before .copy .ensures) (cc) (c .before .before .behind .ensures)) (pointer-is n)
+    leaf-as (both-fit (txt "*(uint" ++ numeral Decimal (8 * n)) (txt "_t *)") _ _ (pointer-size _ _ (c .before .before .before .before .before .before .before .before .before .before .before .before .before .before .width .ensures .0)) _ _ _ _ _ (c .before .before .before .before .before .before .before .before .before .before .before .before .before .if1 .left) (c .before .before .before .before .before .before .before .before .before .before .copy .ensures) (c .before .before .before .before .before .before .m .given .1) (c .before .before .behind .ensures)) (pointer-is n)
 
 pub pointer-spec : {M : Type 1} → statement M
 pointer-spec =
