@@ -26,19 +26,29 @@ fn count_of(w: Wrote) -> u64
 fn piece_of(which: u32, a: u64, b: u32, c: u32) -> Piece
     ensures { λ r. ⌜ r ≡ pieceOf which a b c ⌝ }
 {
-    match which {
-        0 => Piece::Made(Made::Num(a)),
-        1 => Piece::Made(Made::Slot(a)),
-        2 => Piece::Made(Made::Label(a)),
-        3 => Piece::Made(Made::Outward(a)),
-        4 => Piece::Made(Made::Pointer(b)),
-        5 => Piece::Made(Made::Register(Named { bits: b, reg: c })),
-        _ => Piece::Global(Global {
-            t: b,
-            c: a,
-            size: c,
-        }),
+    if which == 0 {
+        return Piece::Made(Made::Num(a));
     }
+    if which == 1 {
+        return Piece::Made(Made::Slot(a));
+    }
+    if which == 2 {
+        return Piece::Made(Made::Label(a));
+    }
+    if which == 3 {
+        return Piece::Made(Made::Outward(a));
+    }
+    if which == 4 {
+        return Piece::Made(Made::Pointer(b));
+    }
+    if which == 5 {
+        return Piece::Made(Made::Register(Named { bits: b, reg: c }));
+    }
+    Piece::Global(Global {
+        t: b,
+        c: a,
+        size: c,
+    })
 }
 
 // The text of a piece; a global's name stands in the file.
