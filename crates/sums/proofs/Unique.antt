@@ -9,10 +9,22 @@ use Rattle.definition.specs.Contents.{text}
 use Rattle.definition.specs.Read.{treeAt, allTrees}
 use Rattle.definition.specs.Offsets.{Known, look, stackOff, refused7}
 use Rattle.values.specs.Tables.{table}
-use Rattle.sums.specs.Address.{valueAt}
+use Rattle.sums.specs.Address.{valueAt, opByte, usedAt, constAt, sumAt}
 
 pub value-at : (tab numbers : List ℕ) (from i r s : ℕ) → r ≡ valueAt tab numbers from i → s ≡ valueAt tab numbers from i → r ≡ s
 value-at tab numbers from i r s p q = p ∙ sym q
+
+pub op-byte : (f : List ℕ) (t n r s : ℕ) → r ≡ opByte f t n → s ≡ opByte f t n → r ≡ s
+op-byte f t n r s p q = p ∙ sym q
+
+pub used-at : (g : ℕ → ℕ) (f : List ℕ) (n r s : ℕ) → r ≡ usedAt g f n → s ≡ usedAt g f n → r ≡ s
+used-at g f n r s p q = p ∙ sym q
+
+pub const-at : (f : List ℕ) (n : ℕ) (r s : Bool) → r ≡ constAt f n → s ≡ constAt f n → r ≡ s
+const-at f n r s p q = p ∙ sym q
+
+pub sum-at : (g : ℕ → ℕ) (f : List ℕ) (t n r s : ℕ) → r ≡ sumAt g f t n → s ≡ sumAt g f t n → r ≡ s
+sum-at g f t n r s p q = p ∙ sym q
 
 module _ (f tab : List ℕ) (n t : ℕ) (E : Edition) (k : List Known) (section : text E ≡ t) (follows : tab ≡ table f n (look k)) where
   pub stack-off : (i r s : ℕ)
