@@ -33,11 +33,15 @@ module _ (ls : List ℕ) (i a b : ℕ) (first : a ≡ firstOf ls i) (last : b �
 module _ (ls : List ℕ) (i : ℕ) where
   pub address-none : (x : ℕ) → x ≡ numberAt ls (5 * i + 0) → (x ≡ 1 → ⊥) → optionOf Nowhere ≡ addressIn ls i
   unfolding optionOf addressIn
-  address-none x e n = rw (← e, ne-eqb x 1 n)
+  address-none x e n =
+      let z : 5 * i + 0 ≡ 5 * i = omega arith in
+      rw (← (e ∙ ap (numberAt ls) z), ne-eqb x 1 n)
 
   pub address-some : (x y : ℕ) → x ≡ numberAt ls (5 * i + 0) → x ≡ 1 → y ≡ numberAt ls (5 * i + 1) → optionOf (Address y) ≡ addressIn ls i
   unfolding optionOf addressIn
-  address-some x y e z f = rw (← e, eq-eqb x 1 z, ← f)
+  address-some x y e one f =
+      let z : 5 * i + 0 ≡ 5 * i = omega arith in
+      rw (← (e ∙ ap (numberAt ls) z), eq-eqb x 1 one, ← f)
 
 module _ (ls : List ℕ) (w k : ℕ) (kind : k ≡ kindOf w) where
   pub row-closes : k ≡ 6 → optionOf Nowhere ≡ rowAddress ls w

@@ -2,7 +2,7 @@ pub mod Ranges
 pub mod Tables
 pub mod Placed
 pub mod Registers
-mod Reading
+pub mod Reading
 mod Laying
-mod Chaining
+pub mod Chaining
 pub mod Unique
