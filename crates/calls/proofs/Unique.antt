@@ -16,7 +16,7 @@ use Rattle.definition.specs.Lookup.{order, targetName}
 use Rattle.definition.specs.Tokens.{tok, symbol}
 use Rattle.definition.specs.Lower.{isIndirect, countSet, takes}
 use Rattle.definition.specs.Blocks.{pendAfter, setAfter, lastLeaves}
-use Rattle.text.proofs.Unique.{equation}
+use Rattle.definition.proofs.Unique.{equation}
 use Rattle.room.specs.declared.out.Out.{Out}
 use Rattle.room.specs.Room.{Room, roomOf, emit}
 use Rattle.pieces.proofs.Unique.{piece}

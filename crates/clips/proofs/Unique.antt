@@ -5,7 +5,7 @@ use mathlib.Core.List.{List}
 use Prim.Native.Nat.{ℕ}
 use Rattle.definition.specs.Tokens.{Token, tok}
 use Rattle.definition.specs.Negate.{condOf}
-use Rattle.text.proofs.Unique.{equation}
+use Rattle.definition.proofs.Unique.{equation}
 use Rattle.room.specs.Room.{Room, emit, emitAll, seen}
 use Rattle.sheet.specs.Buffers.{tokensIn}
 use Rattle.sheet.specs.Ranges.{between}

@@ -8,7 +8,7 @@ use lib.Dec.{eqb}
 use Rattle.definition.specs.Lists.{count}
 use Rattle.definition.specs.Tokens.{Token, tok}
 use Rattle.definition.specs.Negate.{flips, flipIn, compares as comparesIn}
-use Rattle.text.proofs.Unique.{equation}
+use Rattle.definition.proofs.Unique.{equation}
 use Rattle.room.specs.Room.{Room, emitAll, seen}
 use Rattle.sheet.specs.Ranges.{between}
 use Rattle.clips.proofs.Unique.{pieces}

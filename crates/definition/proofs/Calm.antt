@@ -10,6 +10,7 @@ use lib.Dec.{eqb}
 use Rattle.definition.specs.Lists.{any, count}
 use Rattle.definition.specs.Tokens.{Token, tok, punct, join, merge}
 use Rattle.definition.specs.Negate.{compares, comparisons}
+use Rattle.definition.proofs.Runs.{run-append}
 use Rattle.definition.proofs.Bools.{by-test}
 use Rattle.definition.proofs.ListLaws.{bit, count-cons}
 use Rattle.definition.proofs.Merge.{by-join}
@@ -64,13 +65,11 @@ Calm X = (s : Depth) → walk s X ≡ cool s
 -- ---- the walk over joined texts and lists
 bytes-append : (s : Depth) (t u : List ℕ) → bytes s (t ++ u) ≡ bytes (bytes s t) u
 unfolding bytes
-bytes-append s [] u = refl
-bytes-append s (b ∷ t) u = bytes-append (byte s b) t u
+bytes-append = run-append bytes byte (λ s. refl) (λ s b t. refl)
 
 pub walk-append : (s : Depth) (X Y : List Token) → walk s (X ++ Y) ≡ walk (walk s X) Y
 unfolding walk
-walk-append s [] Y = refl
-walk-append s (t ∷ X) Y = walk-append (pass s t) X Y
+walk-append = run-append walk pass (λ s. refl) (λ s t X. refl)
 
 pub cool-cool : (s : Depth) → cool (cool s) ≡ cool s
 unfolding cool

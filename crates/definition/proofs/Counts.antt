@@ -80,23 +80,23 @@ module _ (pre : List Line) (l : Line) (mid post : List Line) (t : List ℕ) (jum
   unfolding byteCount closeTokens textOf
   if-bytes = omega (arith, total-if (λ x. size (x .toks)) (λ x. refl) pre l mid post, f .open-text)
 
+  -- of a test of sorts: the jump is gone, and a head and an end have come
+  if-sorts : (p : Sort → Bool) → count (λ x. p (sort x)) outL + bit (p (condTo t)) ≡ count (λ x. p (sort x)) inL + bit (p ifOpen) + bit (p close)
+  if-sorts p =
+      let c : Sort → ℕ = λ s. bit (p s) in
+      omega (arith, count-if (λ x. p (sort x)) (λ x. refl) pre l mid post, ap c jump, ap c (f .open-sort), ap c close-sort)
+
   pub if-conds : conds inL ≡ suc (conds outL)
   unfolding conds condName has
-  if-conds =
-      let c : Sort → ℕ = λ s. bit (has (condName s)) in
-      omega (arith, count-if (λ x. has (condName (sort x))) (λ x. refl) pre l mid post, ap c jump, ap c (f .open-sort), ap c close-sort)
+  if-conds = omega (arith, if-sorts (λ s. has (condName s)))
 
   pub if-labels : (u : List ℕ) → count (named u) outL ≡ count (named u) inL
   unfolding named labelName is
-  if-labels u =
-      let c : Sort → ℕ = λ s. bit (is u (labelName s)) in
-      omega (arith, count-if (named u) (λ x. refl) pre l mid post, ap c jump, ap c (f .open-sort), ap c close-sort)
+  if-labels u = omega (arith, if-sorts (λ s. is u (labelName s)))
 
   pub if-aims : (u : List ℕ) → count (aims u) inL ≡ count (aims u) outL + bit (same t u)
   unfolding aims aimName is
-  if-aims u =
-      let c : Sort → ℕ = λ s. bit (is u (aimName s)) in
-      omega (arith, count-if (aims u) (λ x. refl) pre l mid post, ap c jump, ap c (f .open-sort), ap c close-sort)
+  if-aims u = omega (arith, if-sorts (λ s. is u (aimName s)))
 
 -- ---- a label's line is its name and a colon
 two-tokens : (ts : List Token) → isLabel ts ≡ true → (size ts ≡ length (firstText ts) + 1) × (length ts ≡ 2)
@@ -156,23 +156,23 @@ module _ (pre : List Line) (l : Line) (mid : List Line) (b : Line) (post : List 
   unfolding byteCount doTokens textOf
   do-bytes = omega (arith, total-do (λ x. size (x .toks)) (λ x. refl) pre l mid b post, f .while-text, f .nonempty, label-size (l .toks) t head .0)
 
+  -- of a test of sorts: the label and the jump are gone, and a head and an end have come
+  do-sorts : (p : Sort → Bool) → count (λ x. p (sort x)) outD + bit (p (label t)) + bit (p (condTo t)) ≡ count (λ x. p (sort x)) inD + bit (p doOpen) + bit (p whileClose)
+  do-sorts p =
+      let c : Sort → ℕ = λ s. bit (p s) in
+      omega (arith, count-do (λ x. p (sort x)) (λ x. refl) pre l mid b post, ap c head, ap c back, ap c do-sort, ap c (f .while-sort))
+
   pub do-conds : conds inD ≡ suc (conds outD)
   unfolding conds condName has
-  do-conds =
-      let c : Sort → ℕ = λ s. bit (has (condName s)) in
-      omega (arith, count-do (λ x. has (condName (sort x))) (λ x. refl) pre l mid b post, ap c head, ap c back, ap c do-sort, ap c (f .while-sort))
+  do-conds = omega (arith, do-sorts (λ s. has (condName s)))
 
   pub do-labels : (u : List ℕ) → count (named u) inD ≡ count (named u) outD + bit (same t u)
   unfolding named labelName is
-  do-labels u =
-      let c : Sort → ℕ = λ s. bit (is u (labelName s)) in
-      omega (arith, count-do (named u) (λ x. refl) pre l mid b post, ap c head, ap c back, ap c do-sort, ap c (f .while-sort))
+  do-labels u = omega (arith, do-sorts (λ s. is u (labelName s)))
 
   pub do-aims : (u : List ℕ) → count (aims u) inD ≡ count (aims u) outD + bit (same t u)
   unfolding aims aimName is
-  do-aims u =
-      let c : Sort → ℕ = λ s. bit (is u (aimName s)) in
-      omega (arith, count-do (aims u) (λ x. refl) pre l mid b post, ap c head, ap c back, ap c do-sort, ap c (f .while-sort))
+  do-aims u = omega (arith, do-sorts (λ s. is u (aimName s)))
 
   -- no goto to the head is left
   pub do-alone : aimed t (pre ++ l ∷ (mid ++ post)) ≡ false → count (aims t) outD ≡ 0

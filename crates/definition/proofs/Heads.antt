@@ -21,8 +21,8 @@ use Rattle.definition.specs.Intel.{flipped}
 use Rattle.definition.specs.Negate.{trimFirst, cutLast, condOf, flippable, openTokens, whileTokens}
 use Rattle.definition.proofs.Bools.{both-true, is-false, by-test}
 use Rattle.definition.proofs.TextLaws.{begins-longer, cut-end}
-use Rattle.definition.proofs.ListLaws.{_▸_, each-to, end, all-each, Each, only-each}
-use Rattle.definition.proofs.Merge.{join-further, text-merge, merge-again, NoGoto, text-append, by-join}
+use Rattle.definition.proofs.ListLaws.{each-to, all-each, Each, only-each}
+use Rattle.definition.proofs.Merge.{join-further, text-merge, merge-again, NoGoto, text-append, each-merge}
 use Rattle.definition.proofs.TokenSorts.{ifTokens}
 use Rattle.definition.proofs.Cuts.{filled}
 use Rattle.definition.proofs.NegateGrowth.{wrap}
@@ -49,19 +49,13 @@ unfolding spoken
 spoken-filled C h = each-to (λ t e. both-true (filled t) _ e .0) (all-each spoken C h)
 
 -- ---- tokens with a text, merged
-filled-join : (t : Token) (M : List Token) → filled t ≡ true → Filled M → Filled (join t M)
-unfolding join isEmpty
-filled-join t [] h k = h ▸ end
-filled-join t (u ∷ us) h (c ▸ k) = by-join Filled t u us (λ j. longer (t .text) (u .text) h ▸ k) (h ▸ c ▸ k)
+filled-merge : {ts : List Token} → Filled ts → Filled (merge ts)
+unfolding isEmpty
+filled-merge = each-merge (λ t u j. longer (t .text) (u .text))
   where
     longer : (x y : List ℕ) → not (isEmpty x) ≡ true → not (isEmpty (x ++ y)) ≡ true
     longer [] y h = absurd (false≢true h)
     longer (b ∷ x) y h = refl
-
-filled-merge : {ts : List Token} → Filled ts → Filled (merge ts)
-unfolding merge
-filled-merge end = end
-filled-merge (_▸_ {x = t} {xs = ts} c h) = filled-join t (merge ts) c (filled-merge h)
 
 -- ---- `) ` at the end of a condition, and its cut
 cut-last : (F : List Token) (s : List ℕ) → cutLast (F ++ (punct (s ++ txt ") ") ∷ [])) ≡ F ++ (punct s ∷ [])

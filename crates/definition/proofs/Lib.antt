@@ -3,6 +3,8 @@ pub mod Computed
 pub mod Bools
 pub mod TextLaws
 pub mod ListLaws
+pub mod Runs
+pub mod Unique
 pub mod Refusals
 pub mod SortLaws
 pub mod Merge

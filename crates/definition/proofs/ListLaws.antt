@@ -1,11 +1,11 @@
 -- `Each`, a property of every element; and laws of the lists' words, `any`, `only`, `count`, `total`, at `++`, `map` and `only`, each by one induction.
-use mathlib.Core.Path.{_≡_, refl, ap}
+use mathlib.Core.Path.{_≡_, refl, sym, ap, _∙_}
 use mathlib.Core.Bool.{Bool, true, false, cond, false≢true}
 use mathlib.Core.List.{List, [], _∷_, _++_, map}
-use Prim.Native.Nat.{ℕ, suc, _+_, _≤_, _<_}
+use Prim.Native.Nat.{ℕ, zero, suc, _+_, _≤_, _<_}
 use native.Mathlib.Omega.{arith}
-use lib.ListN.{length}
-use Rattle.definition.specs.Lists.{all, any, only, count, total}
+use lib.ListN.{length, take, drop, replicate, length-replicate}
+use Rattle.definition.specs.Lists.{all, any, only, count, total, range}
 use Rattle.definition.proofs.Bools.{by-cond, both-false, both-true, or-cases, or-right, or-left, by-test}
 
 -- ---- every element
@@ -41,6 +41,22 @@ module _ {A : Type 0} {P : A → Type 0} where
   each-map g f end = end
   each-map g f (_▸_ {x = x} p h) = f x p ▸ each-map g f h
 
+  pub each-take : (n : ℕ) {xs : List A} → Each P xs → Each P (take n xs)
+  each-take zero h = end
+  each-take (suc n) end = end
+  each-take (suc n) (p ▸ h) = p ▸ each-take n h
+
+  pub each-drop : (n : ℕ) {xs : List A} → Each P xs → Each P (drop n xs)
+  each-drop zero h = h
+  each-drop (suc n) end = end
+  each-drop (suc n) (p ▸ h) = each-drop n h
+
+  -- what stands for the numbers from a on
+  pub each-range : (g : ℕ → A) (a n : ℕ) → ((i : ℕ) → i < a + n → P (g i)) → Each P (map g (range a n))
+  unfolding range
+  each-range g a zero h = end
+  each-range g a (suc n) h = h a (omega arith) ▸ each-range g (a + 1) n (λ i l. h i (omega arith))
+
   pub each-only : (p : A → Bool) {xs : List A} → Each P xs → Each P (only p xs)
   unfolding only
   each-only p end = end
@@ -48,15 +64,18 @@ module _ {A : Type 0} {P : A → Type 0} where
 
 -- a test that holds of every element, or of none
 module _ {A : Type 0} (p : A → Bool) where
+  says-each : (b : Bool) (test : List A → Bool) → ((x : A) (xs : List A) → test (x ∷ xs) ≡ b → (p x ≡ b) × (test xs ≡ b)) → (xs : List A) → test xs ≡ b
+      → Each (λ x. p x ≡ b) xs
+  says-each b test parts [] e = end
+  says-each b test parts (x ∷ xs) e = let q = parts x xs e in q .0 ▸ says-each b test parts xs (q .1)
+
   pub all-each : (xs : List A) → all p xs ≡ true → Each (λ x. p x ≡ true) xs
   unfolding all
-  all-each [] e = end
-  all-each (x ∷ xs) e = let b = both-true (p x) (all p xs) e in b .0 ▸ all-each xs (b .1)
+  all-each = says-each true (all p) (λ x xs. both-true (p x) (all p xs))
 
   pub any-each : (xs : List A) → any p xs ≡ false → Each (λ x. p x ≡ false) xs
   unfolding any
-  any-each [] e = end
-  any-each (x ∷ xs) e = let b = both-false (p x) (any p xs) e in b .0 ▸ any-each xs (b .1)
+  any-each = says-each false (any p) (λ x xs. both-false (p x) (any p xs))
 
 -- ---- sums
 abbrev pub bit : Bool → ℕ
@@ -89,6 +108,14 @@ pub total-length {ℓ} : {A : Type ℓ} (xs : List A) → total (λ x. 1) xs ≡
 unfolding total
 total-length [] = refl
 total-length (x ∷ xs) = omega (arith, total-length xs)
+
+-- ---- zeros
+pub zeros-long : (n : ℕ) (l : List ℕ) → l ≡ replicate n 0 → length l ≡ n
+zeros-long n l e = ap length e ∙ length-replicate n 0
+
+-- zeros of some length are zeros of their own
+pub own-zeros : (l : List ℕ) (n : ℕ) → l ≡ replicate n 0 → l ≡ replicate (length l) 0
+own-zeros l n p = p ∙ ap (λ (k : ℕ). replicate k 0) (sym (zeros-long n l p))
 
 -- ---- counts
 module _ {ℓ} {A : Type ℓ} (p : A → Bool) where

@@ -19,7 +19,7 @@ use Rattle.definition.specs.Read.{allTrees, blockAt, nameAt, read}
 use Rattle.definition.specs.Offsets.{whole}
 use Rattle.definition.specs.Lookup.{order}
 use Rattle.definition.proofs.Bools.{both-true, is-true, by-test}
-use Rattle.definition.proofs.ListLaws.{Each, end, _▸_, all-each}
+use Rattle.definition.proofs.ListLaws.{Each, end, _▸_, all-each, each-drop, each-range}
 
 -- ---- names
 -- the last section holds bytes
@@ -62,19 +62,9 @@ below-at (suc n) p h i l =
     let k = below-at n p (b .0) i in
     by-test (eqb i n) (λ e. subst (λ (j : ℕ). p j ≡ true) (sym (eqb-true i n e)) (b .1)) (λ e. k (omega (arith, eqb-false i n e)))
 
-each-range : {A : Type 0} (Q : A → Type 0) (g : ℕ → A) (a n : ℕ) → ((i : ℕ) → i < a + n → Q (g i)) → Each Q (map g (range a n))
-unfolding range
-each-range Q g a zero h = end
-each-range Q g a (suc n) h = h a (omega arith) ▸ each-range Q g (a + 1) n (λ i l. h i (omega arith))
-
 -- ---- words
 abbrev Byte : ℕ → Type 0
 Byte b = ltb b 256 ≡ true
-
-drop-bytes : (i : ℕ) {f : List ℕ} → Each Byte f → Each Byte (drop i f)
-drop-bytes zero h = h
-drop-bytes (suc i) end = end
-drop-bytes (suc i) (b ▸ h) = drop-bytes i h
 
 four-below : {f : List ℕ} → Each Byte f → four f < 4294967296
 unfolding four
@@ -86,7 +76,7 @@ four-below (a ▸ b ▸ c ▸ d ▸ h) = omega (arith, ltb-true)
 
 long-below : {f : List ℕ} → Each Byte f → (i : ℕ) → long f i < whole
 unfolding long word
-long-below h i = omega (arith, four-below (drop-bytes i h), four-below (drop-bytes (i + 4) h))
+long-below h i = omega (arith, four-below (each-drop i h), four-below (each-drop (i + 4) h))
 
 module _ (E : Edition) (f : List ℕ) where
   -- what the refusals test
@@ -111,7 +101,7 @@ module _ (E : Edition) (f : List ℕ) where
   pub names-there : endsWithText (E .sections) ≡ true → refused4 E f ≡ false → refused5 E f ≡ false → Each (λ n. 1 ≤ length (n .text)) (read E f .names)
   unfolding read
   names-there w r4 r5 =
-      each-range (λ n. 1 ≤ length (n .text)) (nameAt E f) 0 (size f names)
+      each-range (nameAt E f) 0 (size f names)
       (λ i l. name-there w r4 i (below-at (size f names) (nameSound E f) (names-sound r5) i (omega arith)))
 
   -- ---- starts
@@ -127,4 +117,4 @@ module _ (E : Edition) (f : List ℕ) where
   unfolding starts
   starts-below h =
       subst (Each (λ a. a < whole)) (sym starts-are)
-      (each-range (λ a. a < whole) (λ i. blockLong f i 0) 0 (size f blocks) (λ i l. long-below (all-each (λ b. ltb b 256) f h) (place f blocks blockWords i 0)))
+      (each-range {P = λ a. a < whole} (λ i. blockLong f i 0) 0 (size f blocks) (λ i l. long-below (all-each (λ b. ltb b 256) f h) (place f blocks blockWords i 0)))

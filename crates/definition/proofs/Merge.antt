@@ -47,16 +47,21 @@ pub by-join {ℓ} : (P : List Token → Type ℓ) (t u : Token) (us : List Token
 unfolding join
 by-join P t u us h k = by-cond P (joins t u) (λ e. h (joined t u e)) (λ e. k)
 
--- ---- no goto is made
-nogoto-join : (t : Token) (us : List Token) → NotGoto t → NoGoto us → NoGoto (join t us)
-unfolding join
-nogoto-join t [] h k = h ▸ end
-nogoto-join t (u ∷ us) h (c ▸ k) = by-join NoGoto t u us (λ j. no-keyword _ (j .unlike 3 refl) ▸ k) (h ▸ c ▸ k)
+-- ---- what each token has, where two that are one have it as well
+module _ {P : Token → Type 0} (keep : (t u : Token) → Joined t u → P t → P (tok (t .kind) (t .text ++ u .text))) where
+  each-join : (t : Token) (us : List Token) → P t → Each P us → Each P (join t us)
+  unfolding join
+  each-join t [] h k = h ▸ end
+  each-join t (u ∷ us) h (c ▸ k) = by-join (Each P) t u us (λ j. keep t u j h ▸ k) (h ▸ c ▸ k)
 
+  pub each-merge : {ts : List Token} → Each P ts → Each P (merge ts)
+  unfolding merge
+  each-merge end = end
+  each-merge (_▸_ {x = t} {xs = ts} c h) = each-join t (merge ts) c (each-merge h)
+
+-- no goto is made
 pub nogoto-merge : {ts : List Token} → NoGoto ts → NoGoto (merge ts)
-unfolding merge
-nogoto-merge end = end
-nogoto-merge (_▸_ {x = t} {xs = ts} c h) = nogoto-join t (merge ts) c (nogoto-merge h)
+nogoto-merge = each-merge (λ t u j h. no-keyword _ (j .unlike 3 refl))
 
 -- ---- a token that is neither Punct nor Text stays as it is
 pub lone-join : (k : ℕ) (w : List ℕ) → (eqb k 6 || eqb k 0) ≡ false → (us : List Token) → join (tok k w) us ≡ tok k w ∷ us

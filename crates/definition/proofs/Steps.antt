@@ -86,6 +86,11 @@ module _ (step : List Line → Option Formed) (keeps : (ls : List Line) (o : For
   steps-conds (more {n = n} {ls = ls} {o = o} s e d) h =
       omega (arith, steps-conds s h, fewer ls o e (steps-keep Fits (λ ls o e d. keeps ls o e) s h))
 
+  -- a property that each step keeps, where the jumps fit
+  fits-keep : (Q : List Line → Type 0) → ((ls : List Line) (o : Formed) → step ls ≡ some o → o .deep ≡ false → Fits ls → Q ls → Q (o .lines))
+      → {low ls : List Line} {n : ℕ} → Steps step low n ls → Fits low → Q low → Fits ls × Q ls
+  fits-keep Q k s f q = steps-keep (λ ls. Fits ls × Q ls) (λ ls o e d h. (keeps ls o e (h .0), k ls o e d (h .0) (h .1))) s (f, q)
+
 -- ---- the two passes
 if-keeps : (ls : List Line) (o : Formed) → ifStep ls ≡ some o → Fits ls → Fits (o .lines)
 if-keeps = if-step (λ ls o. Fits ls → Fits (o .lines))
@@ -119,20 +124,14 @@ KeptByDo Q =
 
 -- all of a pass's regions keep it
 pub if-steps-keep : (Q : List Line → Type 0) → KeptByIf Q → {low ls : List Line} {n : ℕ} → Steps ifStep low n ls → Fits low → Q low → Fits ls × Q ls
-if-steps-keep Q k s f q =
-    steps-keep (λ ls. Fits ls × Q ls) (λ ls o e d h. (
-      if-keeps ls o e (h .0),
-      if-step (λ ls o. o .deep ≡ false → Fits ls → Q ls → Q (o .lines))
-          (λ pre l mid goal rest t i d f. k pre l mid goal rest t i (fit-at pre l _ t (i .jump) f) d) ls o e d (h .0) (h .1),
-    )) s (f, q)
+if-steps-keep Q k =
+    fits-keep ifStep if-keeps if-fewer Q (if-step (λ ls o. o .deep ≡ false → Fits ls → Q ls → Q (o .lines))
+    (λ pre l mid goal rest t i d f. k pre l mid goal rest t i (fit-at pre l _ t (i .jump) f) d))
 
 pub do-steps-keep : (Q : List Line → Type 0) → KeptByDo Q → {low ls : List Line} {n : ℕ} → Steps doStep low n ls → Fits low → Q low → Fits ls × Q ls
-do-steps-keep Q k s f q =
-    steps-keep (λ ls. Fits ls × Q ls) (λ ls o e d h. (
-      do-keeps ls o e (h .0),
-      do-step (λ ls o. o .deep ≡ false → Fits ls → Q ls → Q (o .lines))
-          (λ pre l mid b post t i d f. k pre l mid b post t i (fit-back pre l mid b post t (i .is-back) f) d) ls o e d (h .0) (h .1),
-    )) s (f, q)
+do-steps-keep Q k =
+    fits-keep doStep do-keeps do-fewer Q (do-step (λ ls o. o .deep ≡ false → Fits ls → Q ls → Q (o .lines))
+    (λ pre l mid b post t i d f. k pre l mid b post t i (fit-back pre l mid b post t (i .is-back) f) d))
 
 -- the passes are their steps, up to the end
 pub if-ends : (low : List Line) → Fits low → Ends ifStep low (structureIfs low)

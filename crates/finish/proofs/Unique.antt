@@ -4,7 +4,7 @@ use mathlib.Core.Option.{Option}
 use mathlib.Core.List.{List}
 use Prim.Native.Nat.{ℕ}
 use Rattle.definition.specs.Tokens.{Token}
-use Rattle.text.proofs.Unique.{equation}
+use Rattle.definition.proofs.Unique.{equation}
 use Rattle.room.specs.Room.{Room, Sheet, emitAll, seen, writeAll, seenSheet}
 use Rattle.outline.specs.Rows.{indentOf, originOf}
 use Rattle.finish.specs.Finishing.{countOf, rowAddress, kindToks, linesIn}

@@ -6,7 +6,7 @@ use mathlib.Core.List.{List}
 use Prim.Native.Nat.{ℕ, zero, suc, _≤_}
 use native.Mathlib.Omega.{arith}
 use lib.Dec.{eqb, eqb·suc-zero}
-use lib.ListN.{length, take, replicate, length-replicate, getD}
+use lib.ListN.{length, take, replicate, getD}
 use lib.Seq.{length-take-le}
 use mir.Syntax.{w8}
 use mir.Val.{Fits}
@@ -16,6 +16,7 @@ use Rattle.definition.specs.Read.{read}
 use Rattle.definition.specs.Offsets.{offsets}
 use Rattle.definition.specs.Listing.{Lent, structure, fits, refusal, resultOf, result, list}
 use Rattle.definition.proofs.Bools.{both-true}
+use Rattle.definition.proofs.ListLaws.{zeros-long, own-zeros}
 use Rattle.definition.proofs.LoweredRead.{edition1-text}
 use Rattle.tables.specs.Tables.{Tables, tablesOf, zeros, cleared, longPlaces, allLong, long}
 use Rattle.structure.specs.Lowered.{Given, Lends, lent}
@@ -58,13 +59,6 @@ three-long l d x h =
     let b = both-true (eqb l 7680 && eqb d 6144) (eqb x 32768) h in
     let a = both-true (eqb l 7680) (eqb d 6144) (b .0) in
     (eqb-true l 7680 (a .0), eqb-true d 6144 (a .1), eqb-true x 32768 (b .1))
-
--- zeros, and as many
-as-long : (n : ℕ) (z : List ℕ) → z ≡ replicate n 0 → length z ≡ n
-as-long n z e = ap length e ∙ length-replicate n 0
-
-again : (n : ℕ) (z : List ℕ) → z ≡ replicate n 0 → z ≡ replicate (length z) 0
-again n z e = e ∙ sym (ap (λ (m : ℕ). replicate m 0) (as-long n z e))
 
 -- the number that lowering answers
 low-number : (L T B : ℕ) (f : List ℕ) (n : ℕ) → lowIn L T B f n .number ≡ n
@@ -112,8 +106,8 @@ module _ (f : List ℕ) (bytes : (k : ℕ) → Fits w8 (getD f k 0)) (l d x : Li
 
     two-served : (1536 ≤ length (U .keys)) × (769 ≤ length (U .offs))
     two-served =
-        let k : length (U .keys) ≡ 7696 = as-long (length (T .keys)) (U .keys) keys-are ∙ tables-long .0 in
-        let o : length (U .offs) ≡ 7696 = as-long (length (T .offs)) (U .offs) offs-are ∙ tables-long .1 in
+        let k : length (U .keys) ≡ 7696 = zeros-long (length (T .keys)) (U .keys) keys-are ∙ tables-long .0 in
+        let o : length (U .offs) ≡ 7696 = zeros-long (length (T .offs)) (U .offs) offs-are ∙ tables-long .1 in
         (omega (arith, k), omega (arith, o))
 
     gives : Given (linesOf f) ls₁ ks₁ t₁ (take 1536 (U .keys)) (take 769 (U .offs)) (w .lines)
@@ -125,15 +119,15 @@ module _ (f : List ℕ) (bytes : (k : ℕ) → Fits w8 (getD f k 0)) (l d x : Li
         let o : length S ≡ 769 = length-take-le 769 (U .offs) (two-served .1) in
         subst (λ (v : Low). Given (linesOf f) (v .lines) (v .tokens) (v .text) R S (v .count)) (sym lines-are)
         (given-file edition1 f (offsets (read edition1 f)) edition1-text (all-bytes f bytes) (file-passes .four) (file-passes .five) (file-passes .six) (file-passes .eighth)
-        (omega arith) (length ls) (length ks) (length t) R S (front-zeros 1536 (U .keys) (again (length (T .keys)) (U .keys) keys-are)) (omega (arith, k)) (omega (arith, k)) (omega (arith, o)))
+        (omega arith) (length ls) (length ks) (length t) R S (front-zeros 1536 (U .keys) (own-zeros (U .keys) (length (T .keys)) keys-are)) (omega (arith, k)) (omega (arith, k)) (omega (arith, o)))
 
     lends : Lends (linesOf f) 1536 l₀ d₀ x₀
     unfolding edition1 linesOf
     lends = record {
       rows = lengths .0;
-      lines = again (length l) l₀ (blank .0);
-      tokens = again (length d) d₀ (blank .1);
-      text = again (length x) x₀ (blank .2);
+      lines = own-zeros l₀ (length l) (blank .0);
+      tokens = own-zeros d₀ (length d) (blank .1);
+      text = own-zeros x₀ (length x) (blank .2);
       most = omega (arith, lengths .2);
       room =
           room-file edition1 f (offsets (read edition1 f)) edition1-text (all-bytes f bytes) (file-passes .four) (file-passes .five) (file-passes .six) (file-passes .eighth)
@@ -142,11 +136,11 @@ module _ (f : List ℕ) (bytes : (k : ℕ) → Fits w8 (getD f k 0)) (l d x : Li
 
   pub lowers : Lowers l₀ d₀ x₀ (U .keys) (U .offs) ls₁ ks₁ t₁ w
   lowers = record {
-    lines = again (length l) l₀ (blank .0);
-    tokens = again (length d) d₀ (blank .1);
-    text = again (length x) x₀ (blank .2);
-    rows = again (length (T .keys)) (U .keys) keys-are;
-    spans = again (length (T .offs)) (U .offs) offs-are;
+    lines = own-zeros l₀ (length l) (blank .0);
+    tokens = own-zeros d₀ (length d) (blank .1);
+    text = own-zeros x₀ (length x) (blank .2);
+    rows = own-zeros (U .keys) (length (T .keys)) keys-are;
+    spans = own-zeros (U .offs) (length (T .offs)) offs-are;
     long = two-served;
     known = λ z. record { low = linesOf f; given = gives z };
   }
@@ -155,7 +149,7 @@ module _ (f : List ℕ) (bytes : (k : ℕ) → Fits w8 (getD f k 0)) (l d x : Li
   same-lent : lent l₀ d₀ x₀ ≡ lentOf (length l) (length d) (length x)
   unfolding lent
   same-lent =
-      rw (as-long (length l) l₀ (blank .0), as-long (length d) d₀ (blank .1), as-long (length x) x₀ (blank .2)) refl
+      rw (zeros-long (length l) l₀ (blank .0), zeros-long (length d) d₀ (blank .1), zeros-long (length x) x₀ (blank .2)) refl
 
   -- nothing is lent wrongly, as the definition asks it
   same-test : all-right ≡ (ready ls ks t T && fits edition1 (lent l₀ d₀ x₀))
@@ -180,6 +174,6 @@ module _ (f : List ℕ) (bytes : (k : ℕ) → Fits w8 (getD f k 0)) (l d x : Li
     low-tokens = blanks .1 ∙ ap (λ (n : ℕ). replicate n 0) e₂;
     low-text = blanks .2 ∙ ap (λ (n : ℕ). replicate n 0) e₃;
     tables =
-        ap (λ (A : List ℕ). twice U A S) (a .rows ∙ sym (again (length (T .keys)) (U .keys) keys-are))
-        ∙ ap (λ (A : List ℕ). twice U (U .keys) A) (a .spans ∙ sym (again (length (T .offs)) (U .offs) offs-are)) ∙ p .tables;
+        ap (λ (A : List ℕ). twice U A S) (a .rows ∙ sym (own-zeros (U .keys) (length (T .keys)) keys-are))
+        ∙ ap (λ (A : List ℕ). twice U (U .keys) A) (a .spans ∙ sym (own-zeros (U .offs) (length (T .offs)) offs-are)) ∙ p .tables;
   }

@@ -20,6 +20,7 @@ use Rattle.definition.specs.Values.{within}
 use Rattle.definition.specs.Blocks.{readRoots}
 use Rattle.definition.specs.Listing.{checked, lineNumbers}
 use Rattle.definition.proofs.Bools.{both-true, passed}
+use Rattle.definition.proofs.ListLaws.{own-zeros}
 use Rattle.values.specs.Keys.{keyOf, placesOf, keyed}
 use Rattle.values.specs.Tables.{numberOf, numbered, table}
 use Rattle.reads.specs.Counts.{LiveReads, PhiReads}
@@ -30,7 +31,6 @@ use Rattle.marks.specs.Labels.{Labels}
 use Rattle.lower.specs.Given.{Lowers}
 use Rattle.tables.specs.Tables.{Tables, most}
 use Rattle.tables.specs.Filled.{Filled}
-use Rattle.zeros.proofs.Clearing.{own-zeros}
 use Rattle.tables.proofs.Handed.{chosen, file-checked, file-sound, numbers-long, labels-long, numbers-are, offs-are, live-are, phi-are, roots-are, places-are, names-are, marked-are}
 use Rattle.lent.specs.Lengths.{lentOf, lowFits}
 use Rattle.lowered.specs.Passed.{Passes}

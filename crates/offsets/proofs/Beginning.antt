@@ -103,10 +103,6 @@ module _ (f : List ℕ) (n : ℕ) (long : length (keyed f n) ≡ n) where
           let b : length (keyed f n) ≤ firstOf (keyed f n) (keyOf (value RSP 0)) = omega arith in
           rw (z, e) (set-out (replicate n 0) (firstOf (keyed f n) 17179869185) half (omega (arith, length-replicate {A = ℕ} n 0)) ∙ zeros-are f n long ∙ sym (begin-none b))
 
--- a list of zeros
-pub zeros-long : (n : ℕ) (l : List ℕ) → l ≡ replicate n 0 → length l ≡ n
-zeros-long n l e = ap length e ∙ length-replicate n 0
-
 -- what the code has put
 pub begun : (f numbers : List ℕ) (places : Places) → Ground f numbers places → (keys tab after : List ℕ) (p : ℕ) → keys ≡ keyed f (length numbers) → tab ≡ replicate (length numbers) 0
     → p ≡ firstOf keys 17179869185 → after ≡ set tab p 9223372036854775808 → after ≡ table f (length numbers) (look entered)

@@ -6,7 +6,6 @@ use native.Mathlib.Nat.{mul-le-mul}
 use native.Mathlib.Omega.{arith}
 use lib.Dec.{eqb}
 use borrow.Author.Tests.{eq-eqb, ne-eqb}
-use Rattle.definition.specs.Words.{word, long}
 use Rattle.definition.specs.Contents.{offset, place, stmtWord}
 use Rattle.definition.specs.Owners.{stmtKind, stmtField, exprItems, valueItems, items}
 use Rattle.definition.specs.Read.{marked}
@@ -19,11 +18,9 @@ pub place-at : (f : List ℕ) (s w i k o : ℕ) → o ≡ offset f s → o + 4 *
 unfolding place
 place-at f s w i k o e = rw e
 
-pub word-placed : (f : List ℕ) (p q r : ℕ) → p ≡ q → r ≡ word f p → r ≡ word f q
-word-placed f p q r e h = rw (← e) h
-
-pub long-placed : (f : List ℕ) (p q r : ℕ) → p ≡ q → r ≡ long f p → r ≡ long f q
-long-placed f p q r e h = rw (← e) h
+-- what was read at a place, whatever reads it
+pub read-placed : (read : ℕ → ℕ) (p q r : ℕ) → p ≡ q → r ≡ read p → r ≡ read q
+read-placed read p q r e h = rw (← e) h
 
 -- the marks of a statement: by the word w that was read
 module _ (f : List ℕ) (i w : ℕ) (marks : w ≡ stmtWord f i 2) where

@@ -6,7 +6,7 @@ use Prim.Native.Nat.{ℕ, _+_, _*_}
 use Rattle.definition.specs.Texts.{same, isEmpty, begins, contains}
 use Rattle.definition.specs.Tokens.{tok}
 use Rattle.definition.specs.Sorts.{isTok}
-use Rattle.text.proofs.Unique.{equation}
+use Rattle.definition.proofs.Unique.{equation}
 use Rattle.sheet.specs.Buffers.{numberAt, kindAt, startAt, endAt, tokenAt, firstOf, lastOf}
 use Rattle.sheet.specs.Ranges.{least as leastOf, between, SamePlace}
 

@@ -6,7 +6,7 @@ use Prim.Native.Nat.{ℕ, _-_}
 use Rattle.definition.specs.Texts.{txt}
 use Rattle.definition.specs.Tokens.{keyword}
 use Rattle.definition.specs.Sorts.{isLabel, firstIs, gotoTarget}
-use Rattle.text.proofs.Unique.{equation}
+use Rattle.definition.proofs.Unique.{equation}
 use Rattle.sheet.specs.Buffers.{textAt, tokensIn}
 use Rattle.sorts.specs.declared.lines.Target.{Target}
 use Rattle.sorts.specs.Places.{targetText}

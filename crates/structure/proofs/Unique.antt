@@ -5,7 +5,7 @@ use Prim.Native.Nat.{ℕ}
 use lib.ListN.{length, replicate}
 use Rattle.definition.specs.Tokens.{Line}
 use Rattle.definition.specs.Listing.{tests}
-use Rattle.text.proofs.Unique.{equation}
+use Rattle.definition.proofs.Unique.{equation}
 use Rattle.sorts.specs.Sorted.{linesIn}
 use Rattle.structure.specs.declared.answers.Structured.{Structured}
 use Rattle.structure.specs.Runs.{Ran, ranOf}

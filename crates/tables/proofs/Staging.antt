@@ -12,7 +12,7 @@ use Rattle.definition.specs.Shape.{owned}
 use Rattle.definition.specs.Meaning.{starts}
 use Rattle.definition.specs.Read.{read, allTrees}
 use Rattle.definition.specs.Offsets.{Known, look, offsets, refused7}
-use Rattle.zeros.proofs.Clearing.{own-zeros}
+use Rattle.definition.proofs.ListLaws.{own-zeros}
 use Rattle.values.specs.Keys.{placesOf, keyed}
 use Rattle.values.specs.Tables.{numbered, table}
 use Rattle.values.proofs.Tables.{table-length}

@@ -1,5 +1,5 @@
 -- A table of any width whose first entries are zeros, one more at each turn: at its end it is all zeros, by its length and its entries.
-use mathlib.Core.Path.{_≡_, refl, sym, ap, _∙_}
+use mathlib.Core.Path.{_≡_, refl, sym, _∙_}
 use mathlib.Core.List.{List}
 use Prim.Native.Nat.{ℕ, _+_, _≤_, _<_}
 use native.Mathlib.Decide.{ℕ-discrete}
@@ -27,7 +27,3 @@ pub clear-end : (u t : List ℕ) (i : ℕ) → Cleared u t i → length t ≤ i 
 clear-end u t i h l =
     ext-getD 0 t (replicate (length u) 0) (h .long ∙ sym (length-replicate (length u) 0))
     (λ j k. h .below j (omega arith) ∙ sym (getD-replicate (length u) j 0 0 (omega (arith, h .long))))
-
--- zeros of some length are zeros of their own
-pub own-zeros : (l : List ℕ) (n : ℕ) → l ≡ replicate n 0 → l ≡ replicate (length l) 0
-own-zeros l n p = p ∙ ap (λ (k : ℕ). replicate k 0) (sym (ap length p ∙ length-replicate n 0))

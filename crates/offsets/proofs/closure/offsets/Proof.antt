@@ -1,6 +1,7 @@
 -- At the start the table knows RSP at entry alone; closed for RSP's own definitions, then for the others, it is the definition's.
+use Rattle.definition.proofs.ListLaws.{zeros-long}
 use Rattle.offsets.proofs.Closed.{offsets-are}
-use Rattle.offsets.proofs.Beginning.{zeros-long, begun}
+use Rattle.offsets.proofs.Beginning.{begun}
 use Rattle.sums.proofs.Naming.{grounded}
 use mathlib.Core.Path.{_∙_}
 use borrow.Author.Needs.{needs}
