@@ -10,6 +10,7 @@ use lib.Seq.{append-snoc, getD-at}
 use borrow.Author.Tests.{ne-eqb, lt-ltb, le-ltb}
 use Rattle.definition.specs.Contents.{exprWord}
 use Rattle.definition.specs.Listing.{padded}
+use Rattle.definition.proofs.Runs.{run-append, run-then}
 use Rattle.records.proofs.Padded.{padded-set, length-padded}
 use Rattle.reads.specs.Uses.{nodeUses, usesBelow}
 use Rattle.reads.specs.Filling.{Filling, filling, put, putAll, usesUnder}
@@ -25,12 +26,12 @@ put-out l k x h = rw (le-ltb k (length l) h)
 
 pub put-append : (r : Filling) (xs ys : List ℕ) → putAll r (xs ++ ys) ≡ putAll (putAll r xs) ys
 unfolding putAll
-put-append r [] ys = refl
-put-append r (x ∷ xs) ys = put-append (put r x) xs ys
+put-append = run-append putAll put (λ r. refl) (λ r x xs. refl)
 
 -- one run behind another
 pub put-more : (p q r : Filling) (xs ys : List ℕ) → q ≡ putAll p xs → r ≡ putAll q ys → r ≡ putAll p (xs ++ ys)
-put-more p q r xs ys a b = b ∙ ap (λ (s : Filling). putAll s ys) a ∙ sym (put-append p xs ys)
+unfolding putAll
+put-more = run-then putAll put (λ r. refl) (λ r x xs. refl)
 
 -- ---- into zeros
 pub padded-none : (n : ℕ) → replicate n 0 ≡ padded n []
