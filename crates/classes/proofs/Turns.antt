@@ -14,7 +14,7 @@ use Rattle.definition.specs.Contents.{size, phiWord}
 use Rattle.definition.specs.Owners.{phiInputs, firstInput}
 use Rattle.definition.specs.Values.{RSP}
 use Rattle.records.proofs.Editions.{length-range}
-use Rattle.records.proofs.Below.{sum-start, sum-turn, sum-le}
+use Rattle.records.proofs.Below.{sum-start, sum-turn, sum-part}
 use Rattle.records.proofs.Parts.{owned-parts}
 use Rattle.ssa.specs.Block.{phiRecord}
 use Rattle.ssa.specs.declared.block.Phi.{Phi}
@@ -153,7 +153,7 @@ module _ (f ks ns : List ℕ) (n : ℕ) (given : Given f ks ns n) where
     pub inputs-fit : (m : ℕ) → m ≡ phiInputs f i → k + m ≤ n
     unfolding placesOf firstInput
     inputs-fit m e =
-        omega (arith, stand .inputs, sum-turn (phiInputs f) {i = i} refl e, sum-le (phiInputs f) (i + 1) (size f phis) (omega arith), owned-parts f (given .whole) .all-inputs, given .room)
+        omega (arith, stand .inputs, sum-part (phiInputs f) {i = i} (size f phis) (omega arith) refl e, owned-parts f (given .whole) .all-inputs, given .room)
 
     pub run-asks : (m : ℕ) → m ≡ phiInputs f i → (length ks ≡ n) × (k + m ≤ length ns)
     run-asks m e = (keys-long, omega (arith, inputs-fit m e, numbers-long))

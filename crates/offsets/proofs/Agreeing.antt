@@ -11,7 +11,7 @@ use mir.Syntax.{w8}
 use mir.Val.{Fits}
 use borrow.Author.Tests.{eq-eqb, ne-eqb}
 use Rattle.words.proofs.Laws.{word-small}
-use Rattle.records.proofs.Below.{sum-le, sum-turn}
+use Rattle.records.proofs.Below.{sum-part}
 use Rattle.records.proofs.Parts.{owned-parts}
 use Rattle.definition.specs.Edition.{phis, inputs, statements}
 use Rattle.definition.specs.Lists.{all, range}
@@ -87,9 +87,7 @@ module _ (f numbers : List ℕ) (places : Places) (g : Ground f numbers places) 
 
   pub inputs-inside : (i : ℕ) → i < size f phis → places .inputs + firstInput f i + phiInputs f i ≤ length numbers
   unfolding placesOf firstInput
-  inputs-inside i h =
-      let t = sum-turn (phiInputs f) {i = i} refl refl in
-      rw (g .where-all) (omega (arith, sum-le (phiInputs f) (i + 1) (size f phis) (omega arith), owned-parts f (g .counts) .all-inputs, g .room))
+  inputs-inside i h = rw (g .where-all) (omega (arith, sum-part (phiInputs f) {i = i} (size f phis) h refl refl, owned-parts f (g .counts) .all-inputs, g .room))
 
   module _ (bytes : (k : ℕ) → Fits w8 (getD f k 0)) where
     pub phi-names : (i : ℕ) → i < size f phis → Names f (length numbers) (places .phis + i) (value (phiWord f i 0) (phiWord f i 1))

@@ -14,7 +14,7 @@ use Rattle.definition.specs.Contents.{size}
 use Rattle.definition.specs.Read.{marked}
 use Rattle.definition.specs.Listing.{padded}
 use Rattle.definition.proofs.Runs.{run-append, each-turn, each-end, lists-turn, lists-end, loop-start}
-use Rattle.records.proofs.Below.{sum-turn, sum-le}
+use Rattle.records.proofs.Below.{sum-turn, sum-part}
 use Rattle.records.proofs.Items.{size-small}
 use Rattle.values.specs.Keys.{placesOf}
 use Rattle.values.specs.Tables.{at}
@@ -81,9 +81,8 @@ unfolding padded useOrder useStart
 node-at f order m i j e h k =
     let g = stmtUses f in
     let n = size f statements in
-    let t = sum-turn (λ (x : ℕ). length (g x)) {i = i} refl refl in
     let b : sumBelow i (λ (x : ℕ). length (g x)) + j < length (gather g (range 0 n)) =
-    omega (arith, gather-length g n, sum-le (λ (x : ℕ). length (g x)) (i + 1) n (omega arith)) in
+    omega (arith, gather-length g n, sum-part (λ (x : ℕ). length (g x)) {i = i} n h refl refl) in
     ap (λ (l : List ℕ). at l (sumBelow i (λ (x : ℕ). length (g x)) + j)) e
     ∙ at-left (gather g (range 0 n)) (replicate (m - length (gather g (range 0 n))) 0) (sumBelow i (λ (x : ℕ). length (g x)) + j) b
     ∙ at-gather g n i j h k
