@@ -18,7 +18,7 @@ use Rattle.references.proofs.Naming.{names-start, roots-are}
 use Rattle.values.proofs.Ranges.{map-length, gather-length}
 use Rattle.reads.specs.Uses.{usesIn, stmtUses, useOrder, useStart, useStarts}
 use Rattle.reads.specs.Filling.{Filling, filling, putAll, usesUnder}
-use Rattle.reads.proofs.Filling.{put-append, put-more, filled, padded-none}
+use Rattle.reads.proofs.Filling.{put-append, put-more, filled}
 
 -- ---- the roots of statement i, of which m are left from the j-th on
 unfoldable pub rootUses : List ℕ → ℕ → ℕ → ℕ → ℕ → List ℕ
@@ -61,10 +61,6 @@ unfolding usesBefore
 before-turn f i p q r a b =
     let s : i + 1 ≡ suc i = omega arith in
     put-more p q r (gather (stmtUses f) (range 0 i)) (stmtUses f i) a b ∙ ap (putAll p) (rw s (sym (gather-last (stmtUses f) i)))
-
-pub starts-start : (f l : List ℕ) → l ≡ replicate (length l) 0 → l ≡ startsBefore f (length l) 0
-unfolding startsBefore range
-starts-start f l e = e ∙ padded-none (length l)
 
 pub starts-turn : (f : List ℕ) (m n i x : ℕ) (l : List ℕ) → n ≡ size f statements → i ≤ n → suc (size f statements) ≤ m → x ≡ useStart f i → l ≡ startsBefore f m i
     → set l i x ≡ startsBefore f m (i + 1)
