@@ -46,11 +46,11 @@ module _ (f : List ℕ) (n : ℕ) where
     still = λ q k e. h k e;
   }
 
-  pub ran-none : (tab : List ℕ) → Ran f n [] tab tab false
+  ran-none : (tab : List ℕ) → Ran f n [] tab tab false
   unfolding round
   ran-none tab = ran-still [] tab (λ k e. refl)
 
-  pub ran-then : (xs ys : List Def) (t u w : List ℕ) (a b : Bool) → Ran f n xs t u a → Ran f n ys u w b → Ran f n (xs ++ ys) t w (a || b)
+  ran-then : (xs ys : List Def) (t u w : List ℕ) (a b : Bool) → Ran f n xs t u a → Ran f n ys u w b → Ran f n (xs ++ ys) t w (a || b)
   ran-then xs ys t u w a b p q = record {
     falls = less a b (p .falls) (q .falls);
     learns = λ k e. q .learns (round xs k) (p .learns k e) ∙ ap (λ (j : List Known). table f n (look j)) (sym (round-append xs ys k));
@@ -167,8 +167,8 @@ module _ (f : List ℕ) (n : ℕ) (own : Bool) where
   both-ran ds xs ys t u w a b r e o p q =
       rw o (ran-same f n (mine own ds) (mine own xs ++ mine own ys) t w (a || b) (ap (mine own) e ∙ mine-append own xs ys) (ran-then f n (mine own xs) (mine own ys) t u w a b p q))
 
-  pub nothing-ran : (ds : List Def) (t : List ℕ) → ds ≡ [] → Ran f n (mine own ds) t t false
-  nothing-ran ds t e = ran-same f n (mine own ds) [] t t false (ap (mine own) e ∙ mine-none own) (ran-none f n t)
+  pub nothing-ran : (ds : List Def) (t : List ℕ) → mine own ds ≡ [] → Ran f n (mine own ds) t t false
+  nothing-ran ds t e = ran-same f n (mine own ds) [] t t false e (ran-none f n t)
 
   pub all-ran : (ds : ℕ → List Def) (i m l : ℕ) (t u : List ℕ) (c : Bool) → i ≤ m → m ≤ i → m ≡ l → Ran f n (mine own (ds i)) t u c → Ran f n (mine own (ds l)) t u c
   all-ran ds i m l t u c p q s r = let e : l ≡ i = omega arith in rw e r

@@ -1,6 +1,6 @@
 -- The first i phis have run, and the input carried along is the next one's first; a step runs that phi behind them.
 use Rattle.offsets.proofs.Walking.{within, inputs-small, inputs-start, inputs-turn, inputs-end}
-use Rattle.offsets.proofs.Running.{phis-parts, both-ran, nothing-ran, all-ran}
+use Rattle.offsets.proofs.Running.{phis-parts, both-ran, mine-none, nothing-ran, all-ran}
 use Rattle.offsets.specs.Ran.{Ran}
 use Rattle.offsets.specs.Defs.{mine, phiDefs}
 use Rattle.records.proofs.Items.{size-small}
@@ -22,7 +22,7 @@ abbrev μ-loop : tie.MeasureT-loop
 
 loop-holds : tie.Need-loop-holds Inv-loop μ-loop
 unfolding phiDefs range
-loop-holds c = (omega arith, refl, inputs-start _ _ _ (c .before .before .before .pre .1 .1 .1), nothing-ran _ _ _ _ _ refl)
+loop-holds c = (omega arith, refl, inputs-start _ _ _ (c .before .before .before .pre .1 .1 .1), nothing-ran _ _ _ _ _ (mine-none _))
 
 add-phi-step : tie.Need-add-phi-step Inv-loop μ-loop
 add-phi-step c = omega (arith, size-small (c .before .before .before .before .before .before .args .f .now) (c .before .before .before .before .shared-slice-known .given) 2, c .before .before .before .before .before .before .pre .1 .1 .0)

@@ -1,6 +1,6 @@
 -- The definitions of the blocks below b have run and the walk stands before block b; at the end those of all blocks have.
 use Rattle.offsets.proofs.Walking.{before-start}
-use Rattle.offsets.proofs.Running.{blocks-parts, both-ran, nothing-ran, all-ran}
+use Rattle.offsets.proofs.Running.{blocks-parts, both-ran, mine-none, nothing-ran, all-ran}
 use Rattle.sums.proofs.Naming.{under}
 use Rattle.offsets.specs.Before.{Before}
 use Rattle.offsets.specs.Ran.{Ran}
@@ -27,7 +27,7 @@ size-of-requires c κs = search needs
 
 loop-holds : tie.Need-loop-holds Inv-loop μ-loop
 unfolding defsBelow range gather
-loop-holds c = (omega arith, refl, before-start _ _, λ E s. nothing-ran _ _ _ _ _ refl)
+loop-holds c = (omega arith, refl, before-start _ _, λ E s. nothing-ran _ _ _ _ _ (mine-none _))
 
 block-round-requires : tie.Need-block-round-requires Inv-loop μ-loop
 block-round-requires c κs = (c .before .before .before .before .before .before .before .pre .0, (c .before .before .loop .inv .1 ∙ c .before .before .before .before .before .before .before .pre .1, (under (c .before .loop-test .taken) (c .before .before .before .size-of .ensures), c .before .before .loop .inv .2)))

@@ -1,6 +1,6 @@
 -- The definitions of the first i statements have run; a step runs the next one's behind them, and a change in either is a change.
 use Rattle.offsets.proofs.Walking.{within}
-use Rattle.offsets.proofs.Running.{stmts-parts, both-ran, nothing-ran, all-ran}
+use Rattle.offsets.proofs.Running.{stmts-parts, both-ran, mine-none, nothing-ran, all-ran}
 use Rattle.offsets.specs.Ran.{Ran}
 use Rattle.offsets.specs.Defs.{mine, stmtDefs}
 use Rattle.records.proofs.Items.{size-small}
@@ -23,7 +23,7 @@ abbrev μ-loop : tie.MeasureT-loop
 
 loop-holds : tie.Need-loop-holds Inv-loop μ-loop
 unfolding stmtDefs range gather
-loop-holds c = (omega arith, refl, λ E s. nothing-ran _ _ _ _ _ refl)
+loop-holds c = (omega arith, refl, λ E s. nothing-ran _ _ _ _ _ (mine-none _))
 
 add-stmt-step : tie.Need-add-stmt-step Inv-loop μ-loop
 add-stmt-step c = omega (arith, size-small (c .before .before .before .before .before .before .args .f .now) (c .before .before .before .before .shared-slice-known .given) 4, c .before .before .before .before .before .before .pre .1 .1)
