@@ -8,18 +8,18 @@ use native.Mathlib.Decide.{ℕ-discrete}
 use lib.Dec.{eqb}
 use lib.ListN.{getD}
 use borrow.Author.Tests.{ne-eqb}
-use Rattle.definition.specs.Codes.{tConst, tUse, tBin, tUn, tLoad}
 use Rattle.definition.specs.Edition.{Edition, expressions}
 use Rattle.definition.specs.Lists.{gather}
-use Rattle.definition.specs.Contents.{size, stmtLong, exprWord, exprLong, textAt}
+use Rattle.definition.specs.Contents.{size, stmtLong, exprWord, textAt}
 use Rattle.definition.specs.Owners.{stmtKind, stmtField}
 use Rattle.definition.specs.Values.{Value, value}
 use Rattle.definition.specs.References.{roots, itemExprs}
 use Rattle.definition.specs.Meaning.{itemValues}
 use Rattle.definition.specs.Ssa.{Expr, exprUses, optionUses, uses}
-use Rattle.definition.specs.Ssa.Expr.{Const, Use, Bin, Un, Load, Opaque}
+use Rattle.definition.specs.Ssa.Expr.{Opaque}
 use Rattle.definition.specs.Ssa.Kind.{Assign, Store, Call, Branch, Flags, Return, Other}
-use Rattle.definition.specs.Read.{treeAt, opText, tree, trees, allTrees, kindAt, when}
+use Rattle.definition.specs.Read.{treeAt, tree, trees, allTrees, kindAt, when}
+use Rattle.records.proofs.Trees.{by-tag}
 use Rattle.reads.specs.Uses.{nodeUses, usesBelow, usesIn, stmtUses, useValue}
 
 -- ---- tables side by side
@@ -37,6 +37,16 @@ module _ {A : Type 0} {B : Type 0} {P : A → B → Type 0} where
   both-at (and-then p h) q zero = p
   both-at (and-then p h) q (suc i) = both-at h q i
 
+-- a table whose entry n is made of those below it agrees with the trees, where each of its entries does
+pub beside-trees : {A : Type 0} (P : A → Expr → Type 0) (d : A) (table : ℕ → List A) (node : List A → ℕ → A) → table 0 ≡ [] → ((n : ℕ) → table (suc n) ≡ table n ++ (node (table n) n ∷ []))
+    → (E : Edition) (f : List ℕ) → P d (Opaque []) → ((l : List A) (u : List Expr) → ((i : ℕ) → P (getD l i d) (treeAt u i)) → (n : ℕ) → P (node l n) (tree E f u n))
+    → (n : ℕ) → Both P (table n) (trees E f n)
+unfolding trees
+beside-trees P d table node empty more E f first says zero = rw empty none-left
+beside-trees P d table node empty more E f first says (suc n) =
+    let r = beside-trees P d table node empty more E f first says n in
+    rw (more n) (both-append r (and-then (says (table n) (trees E f n) (both-at r first) n) none-left))
+
 -- ---- the Use nodes of an expression and its tree
 module _ (E : Edition) (f : List ℕ) where
   -- these nodes read what the tree reads
@@ -48,27 +58,19 @@ module _ (E : Edition) (f : List ℕ) where
   none-read = refl
 
   node-reads : (t : List (List ℕ)) (u : List Expr) → ((i : ℕ) → Reads (getD t i []) (treeAt u i)) → (n : ℕ) → Reads (nodeUses f t n) (tree E f u n)
-  unfolding nodeUses tree exprUses useValue
+  unfolding nodeUses exprUses useValue
   node-reads t u h n =
       let g = exprWord f n 0 in
-      go g (exprWord f n) (ℕ-discrete g 1) (ℕ-discrete g 2) (ℕ-discrete g 3) (ℕ-discrete g 4) (ℕ-discrete g 5)
-    where
-      go : (g : ℕ) (w : ℕ → ℕ) → Dec (g ≡ 1) → Dec (g ≡ 2) → Dec (g ≡ 3) → Dec (g ≡ 4) → Dec (g ≡ 5)
-          → map (useValue f) (cond (eqb g tUse) (n ∷ []) (cond (eqb g tBin) (getD t (w 3) [] ++ getD t (w 4) []) (cond (eqb g tUn) (getD t (w 3) []) (cond (eqb g tLoad) (getD t (w 2) []) []))))
-          ≡ exprUses (cond (eqb g tConst) (Const (exprLong f n 1)) (cond (eqb g tUse) (Use (value (exprWord f n 1) (exprWord f n 2)))
-          (cond (eqb g tBin) (Bin (opText E f n) (treeAt u (w 3)) (treeAt u (w 4))) (cond (eqb g tUn) (Un (opText E f n) (treeAt u (w 3)))
-          (cond (eqb g tLoad) (Load (w 1) (treeAt u (w 2))) (Opaque (textAt E f (exprWord f n 1) (exprWord f n 2))))))))
-      go g w (yes e) b c d k = rw e
-      go g w (no a) (yes e) c d k = rw e
-      go g w (no a) (no b) (yes e) d k = rw e (map-append (useValue f) (getD t (w 3) []) (getD t (w 4) []) ∙ ap₂ (λ (x y : List Value). x ++ y) (h (w 3)) (h (w 4)))
-      go g w (no a) (no b) (no c) (yes e) k = rw e (h (w 3))
-      go g w (no a) (no b) (no c) (no d) (yes e) = rw e (h (w 2))
-      go g w (no a) (no b) (no c) (no d) (no k) = rw (ne-eqb g 1 a, ne-eqb g 2 b, ne-eqb g 3 c, ne-eqb g 4 d, ne-eqb g 5 k)
+      let i = exprWord f n 3 in
+      let j = exprWord f n 4 in
+      by-tag E f u n (Reads (nodeUses f t n)) (λ e. rw e) (λ e. rw e)
+      (λ e. rw e (map-append (useValue f) (getD t i []) (getD t j []) ∙ ap₂ (λ (x y : List Value). x ++ y) (h i) (h j)))
+      (λ e. rw e (h i)) (λ e. rw e (h (exprWord f n 2)))
+      (λ a b c d k. rw (ne-eqb g 2 b, ne-eqb g 3 c, ne-eqb g 4 d, ne-eqb g 5 k))
 
   tables-read : (n : ℕ) → Both Reads (usesBelow f n) (trees E f n)
-  unfolding usesBelow trees
-  tables-read zero = none-left
-  tables-read (suc n) = let r = tables-read n in both-append r (and-then (node-reads (usesBelow f n) (trees E f n) (both-at r none-read) n) none-left)
+  unfolding usesBelow
+  tables-read = beside-trees Reads [] (usesBelow f) (nodeUses f) refl (λ n. refl) E f none-read node-reads
 
   expr-uses : (n : ℕ) → Reads (usesIn f n) (treeAt (allTrees E f) n)
   unfolding usesIn allTrees

@@ -48,7 +48,7 @@ pub grounded : (f numbers : List ℕ) (places : Places) → places ≡ placesOf 
 grounded f numbers places e g = rw e g
 
 module _ (f numbers : List ℕ) (places : Places) (g : Ground f numbers places) where
-  pub place-here : (p : ℕ) → p < placesOf f .total → p < length (keyed f (length numbers))
+  place-here : (p : ℕ) → p < placesOf f .total → p < length (keyed f (length numbers))
   place-here p h = omega (arith, keyed-length f (length numbers) (g .counts) (g .room), g .room)
 
   -- what the table says at the number of a place
@@ -61,21 +61,26 @@ module _ (f numbers : List ℕ) (places : Places) (g : Ground f numbers places) 
   number-low p v m =
       omega (arith, ap (λ (l : List ℕ). at l p) (g .values), numbered-below f (length numbers) p (m .here), keyed-length f (length numbers) (g .counts) (g .room))
 
-  -- places are inside
+  -- a place that is read is inside, and names the value whose key stands there
+  pub inside : (read : Places → ℕ) (i : ℕ) → read (placesOf f) + i < placesOf f .total → read places + i < length numbers
+  inside read i h = rw (g .where-all) (omega (arith, h, g .room))
+
+  pub names-at : (read : Places → ℕ) (i : ℕ) (v : Value) → read (placesOf f) + i < placesOf f .total → at (keyed f (length numbers)) (read (placesOf f) + i) ≡ keyOf v
+      → v .ver < 4294967296 → Names f (length numbers) (read places + i) v
+  names-at read i v h e s = rw (g .where-all) (record { here = place-here (read (placesOf f) + i) h; is = e; small = s })
+
   pub stmt-inside : (i : ℕ) → i < size f statements → places .stmts + i < length numbers
-  stmt-inside i h = rw (g .where-all) (omega (arith, stmt-here f i h, g .room))
+  stmt-inside i h = inside (λ (q : Places). q .stmts) i (stmt-here f i h)
 
   pub expr-inside : (i : ℕ) → i < size f expressions → places .exprs + i < length numbers
-  expr-inside i h = rw (g .where-all) (omega (arith, expr-here f i h, g .room))
+  expr-inside i h = inside (λ (q : Places). q .exprs) i (expr-here f i h)
 
   module _ (bytes : (k : ℕ) → Fits w8 (getD f k 0)) where
     expr-names : (i : ℕ) → i < size f expressions → exprWord f i 0 ≡ 2 → Names f (length numbers) (places .exprs + i) (value (exprWord f i 1) (exprWord f i 2))
     unfolding exprKey
-    expr-names i h e = rw (g .where-all) (record {
-      here = place-here (placesOf f .exprs + i) (expr-here f i h);
-      is = rw e at (at-expr f (length numbers) (g .counts) i h);
-      small = word-small f bytes _;
-    })
+    expr-names i h e =
+        names-at (λ (q : Places). q .exprs) i (value (exprWord f i 1) (exprWord f i 2)) (expr-here f i h)
+        (rw e at (at-expr f (length numbers) (g .counts) i h)) (word-small f bytes _)
 
     module _ (tab : List ℕ) (k : List Known) (follows : tab ≡ table f (length numbers) (look k)) where
       used-known : (n : ℕ) → n < size f expressions → exprWord f n 0 ≡ 2 → valueAt tab numbers (places .exprs) n ≡ look k (value (exprWord f n 1) (exprWord f n 2))
