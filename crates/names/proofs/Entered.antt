@@ -3,13 +3,11 @@ use mathlib.Core.Path.{_≡_, refl, sym, ap, ap₂, _∙_}
 use mathlib.Core.Bool.{Bool, true, false, not, cond, _||_, or-false, or-assoc, true≢false, false≢true}
 use mathlib.Core.List.{List, [], _∷_, _++_, map, map-append}
 use Prim.Native.Nat.{ℕ, zero, suc, _+_, _<_}
-use native.Mathlib.Decide.{ℕ-discrete}
 use native.Mathlib.Omega.{arith}
 use lib.Dec.{eqb}
 use lib.ListN.{length, getD, replicate, length-append}
 use mir.Syntax.{w8}
 use mir.Val.{Fits}
-use borrow.Author.Tests.{ne-eqb}
 use Rattle.definition.specs.Edition.{Edition, args, statements}
 use Rattle.definition.specs.Lists.{any, only, gather, range}
 use Rattle.definition.specs.Contents.{size, argAt}
@@ -29,6 +27,7 @@ use Rattle.values.specs.Tables.{at, numbered, table}
 use Rattle.values.proofs.Tables.{table-same, eqv-swap, zeros-are}
 use Rattle.values.proofs.Placed.{keyed-length}
 use Rattle.values.proofs.Ranges.{map-length}
+use Rattle.reads.proofs.Codes.{by-code}
 use Rattle.reads.proofs.ReadAtAll.{bit-so}
 use Rattle.names.specs.Codes.{coded}
 use Rattle.names.specs.Spots.{Spot, useSpots, entrySpots, ticked, upTo}
@@ -59,19 +58,7 @@ module _ (f : List ℕ) (n : ℕ) where
 -- ---- what is read at entry
 convention : (E : Edition) (f : List ℕ) (t : List Expr) (i : ℕ) → byConvention (kindAt E f t i) ≡ (eqb (stmtKind f i) 3 || eqb (stmtKind f i) 4)
 unfolding byConvention kindAt
-convention E f t i =
-    go (ℕ-discrete (stmtKind f i) 1) (ℕ-discrete (stmtKind f i) 2) (ℕ-discrete (stmtKind f i) 3) (ℕ-discrete (stmtKind f i) 4) (ℕ-discrete (stmtKind f i) 5) (ℕ-discrete (stmtKind f i) 6)
-  where
-    go : Dec (stmtKind f i ≡ 1) → Dec (stmtKind f i ≡ 2) → Dec (stmtKind f i ≡ 3) → Dec (stmtKind f i ≡ 4) → Dec (stmtKind f i ≡ 5) → Dec (stmtKind f i ≡ 6)
-        → byConvention (kindAt E f t i) ≡ (eqb (stmtKind f i) 3 || eqb (stmtKind f i) 4)
-    go (yes e) b c d g h = rw e
-    go (no a) (yes e) c d g h = rw e
-    go (no a) (no b) (yes e) d g h = rw e
-    go (no a) (no b) (no c) (yes e) g h = rw e
-    go (no a) (no b) (no c) (no d) (yes e) h = rw e
-    go (no a) (no b) (no c) (no d) (no g) (yes e) = rw e
-    go (no a) (no b) (no c) (no d) (no g) (no h) =
-        rw (ne-eqb (stmtKind f i) 1 a, ne-eqb (stmtKind f i) 2 b, ne-eqb (stmtKind f i) 3 c, ne-eqb (stmtKind f i) 4 d, ne-eqb (stmtKind f i) 5 g, ne-eqb (stmtKind f i) 6 h)
+convention E f t i = by-code (stmtKind f i) (λ e. rw e) (λ e. rw e) (λ e. rw e) (λ e. rw e) (λ e. rw e) (λ e. rw e) (λ a b c d g h. rw (a, b, c, d, g, h))
 
 -- two tests, one behind the other
 gather-twice : {A : Type 0} {B : Type 0} {C : Type 0} (g : B → List C) (p q : B → Bool) (h : A → B) (xs : List A)

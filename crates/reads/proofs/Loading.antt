@@ -3,24 +3,22 @@ use mathlib.Core.Path.{_≡_, refl, sym, ap, ap₂, _∙_}
 use mathlib.Core.Bool.{Bool, true, false, cond, _||_}
 use mathlib.Core.List.{List, [], _∷_, _++_, map}
 use Prim.Native.Nat.{ℕ, zero, suc, _+_, _-_, _≤_, _<_}
-use native.Mathlib.Decide.{ℕ-discrete}
 use native.Mathlib.Omega.{arith}
 use lib.Dec.{eqb}
 use lib.ListN.{length, set, replicate, length-append}
 use borrow.Author.Tests.{ne-eqb}
-use Rattle.definition.specs.Codes.{tConst, tUse, tBin, tUn, tLoad}
 use Rattle.definition.specs.Edition.{Edition, expressions}
-use Rattle.definition.specs.Contents.{size, exprWord, exprLong, textAt}
-use Rattle.definition.specs.Values.{value}
+use Rattle.definition.specs.Contents.{size, exprWord}
 use Rattle.definition.specs.Ssa.{Expr}
-use Rattle.definition.specs.Ssa.Expr.{Const, Use, Bin, Un, Load, Opaque}
-use Rattle.definition.specs.Read.{treeAt, opText, tree, trees, allTrees}
+use Rattle.definition.specs.Ssa.Expr.{Opaque}
+use Rattle.definition.specs.Read.{treeAt, tree, trees, allTrees}
 use Rattle.definition.specs.Inline.{hasLoad}
 use Rattle.definition.specs.Listing.{padded}
 use Rattle.records.proofs.Padded.{padded-set}
 use Rattle.values.specs.Tables.{at}
 use Rattle.values.proofs.Ranges.{zeros-at}
 use Rattle.reads.specs.Loads.{loadOf, loadsBelow, loadBit}
+use Rattle.reads.proofs.Codes.{by-code}
 use Rattle.reads.proofs.Trees.{Both, none-left, and-then, both-append, both-at}
 use Rattle.reads.proofs.Filling.{padded-none}
 
@@ -44,20 +42,9 @@ module _ (E : Edition) (f : List ℕ) where
   node-says : (l : List ℕ) (u : List Expr) → ((i : ℕ) → Says (at l i) (treeAt u i)) → (n : ℕ) → Says (loadOf f l n) (tree E f u n)
   unfolding loadOf tree loadBit hasLoad
   node-says l u h n =
-      let g = exprWord f n 0 in
-      go g (exprWord f n) (ℕ-discrete g 1) (ℕ-discrete g 2) (ℕ-discrete g 3) (ℕ-discrete g 4) (ℕ-discrete g 5)
-    where
-      go : (g : ℕ) (w : ℕ → ℕ) → Dec (g ≡ 1) → Dec (g ≡ 2) → Dec (g ≡ 3) → Dec (g ≡ 4) → Dec (g ≡ 5)
-          → cond (eqb g tLoad) 1 (cond (eqb g tUn) (at l (w 3)) (cond (eqb g tBin) (cond (eqb (at l (w 3)) 1) 1 (at l (w 4))) 0))
-          ≡ loadBit (cond (eqb g tConst) (Const (exprLong f n 1)) (cond (eqb g tUse) (Use (value (exprWord f n 1) (exprWord f n 2)))
-          (cond (eqb g tBin) (Bin (opText E f n) (treeAt u (w 3)) (treeAt u (w 4))) (cond (eqb g tUn) (Un (opText E f n) (treeAt u (w 3)))
-          (cond (eqb g tLoad) (Load (w 1) (treeAt u (w 2))) (Opaque (textAt E f (exprWord f n 1) (exprWord f n 2))))))))
-      go g w (yes e) b c d k = rw e
-      go g w (no a) (yes e) c d k = rw e
-      go g w (no a) (no b) (yes e) d k = rw e (either-says (at l (w 3)) (at l (w 4)) (treeAt u (w 3)) (treeAt u (w 4)) (h (w 3)) (h (w 4)))
-      go g w (no a) (no b) (no c) (yes e) k = rw e (h (w 3))
-      go g w (no a) (no b) (no c) (no d) (yes e) = rw e
-      go g w (no a) (no b) (no c) (no d) (no k) = rw (ne-eqb g 1 a, ne-eqb g 2 b, ne-eqb g 3 c, ne-eqb g 4 d, ne-eqb g 5 k)
+      let w = exprWord f n in
+      by-code (w 0) (λ e. rw e) (λ e. rw e) (λ e. rw e (either-says (at l (w 3)) (at l (w 4)) (treeAt u (w 3)) (treeAt u (w 4)) (h (w 3)) (h (w 4))))
+      (λ e. rw e (h (w 3))) (λ e. rw e) (λ e. rw e) (λ a b c d g k. rw (a, b, c, d, g))
 
   tables-say : (n : ℕ) → Both Says (loadsBelow f n) (trees E f n)
   unfolding loadsBelow trees at
