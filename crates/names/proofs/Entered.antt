@@ -32,13 +32,13 @@ use Rattle.reads.proofs.ReadAtAll.{bit-so}
 use Rattle.names.specs.Codes.{coded}
 use Rattle.names.specs.Spots.{Spot, useSpots, entrySpots, ticked, upTo}
 use Rattle.names.specs.Given.{Numbered, EntryRead, entryTable}
-use Rattle.names.proofs.Mentioned.{Mentions, coded-read, coded-write, each-runs, arg-named, uses-right}
+use Rattle.names.proofs.Mentioned.{Right, coded-read, coded-write, each-runs, arg-named, uses-right}
 use Rattle.names.proofs.Reading.{valuesOf, use-values}
 use Rattle.names.proofs.Params.{isRead}
 
 -- ---- what is ticked
 module _ (f : List ℕ) (n : ℕ) where
-  ticked-are : (xs : List Spot) → Each (λ (x : Spot). Mentions f n (x .place) (x .of)) xs → (g : Value → ℕ)
+  ticked-are : (xs : List Spot) → Each (Right f n) xs → (g : Value → ℕ)
       → ticked (numbered f n) (table f n g) xs ≡ table f n (λ w. cond (within w (valuesOf xs)) 1 (g w))
   unfolding ticked within any coded
   ticked-are [] end g = table-same f n g (λ w. g w) (λ w. refl)
@@ -155,8 +155,8 @@ module _ (f : List ℕ) (bytes : (k : ℕ) → Fits w8 (getD f k 0)) (ns : List 
         e ∙ ap₂ (λ (u s : List ℕ). ticked u s (gather (entrySpots f) (range 0 (size f statements)))) (given .are)
         (z ∙ zeros-are f (length ns) (keyed-length f (length ns) (given .own) (given .room)))
         ∙ ticked-are f (length ns) (gather (entrySpots f) (range 0 (size f statements)))
-        (each-runs (λ (x : Spot). Mentions f (length ns) (x .place) (x .of)) (entrySpots f) 0 (size f statements)
-        (λ i h. by-cond (Each (λ (x : Spot). Mentions f (length ns) (x .place) (x .of))) (marked f i 1 || (eqb (stmtKind f i) 3 || eqb (stmtKind f i) 4)) (λ b. end)
+        (each-runs (Right f (length ns)) (entrySpots f) 0 (size f statements)
+        (λ i h. by-cond (Each (Right f (length ns))) (marked f i 1 || (eqb (stmtKind f i) 3 || eqb (stmtKind f i) 4)) (λ b. end)
         (λ b. uses-right f bytes (given .own) (length ns) (given .room) i)))
         (λ v. 0)
         ∙ ap (λ (vs : List Value). table f (length ns) (λ w. cond (within w vs) 1 0)) (entry-values f (given .own) E);
