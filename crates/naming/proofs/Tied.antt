@@ -17,7 +17,7 @@ use Rattle.values.specs.Tables.{at, numberOf, numbered, table}
 use Rattle.values.proofs.Tables.{key-not-0, decode, eqv-keys, same-numbered, numbered-below, table-length}
 use Rattle.names.specs.Codes.{coded, Coding, coding, meetCode, codeKey, codeKeys}
 use Rattle.names.specs.Spots.{Spot, Known, State, known, noted, met, named}
-use Rattle.names.proofs.Mentioned.{Mentions, coded-read, coded-write, root-number}
+use Rattle.names.proofs.Mentioned.{Mentions, Right, coded-read, coded-write, root-number}
 use Rattle.naming.specs.Walk.{walked}
 
 -- ---- how many entries there are
@@ -128,7 +128,7 @@ module _ (f : List ℕ) (n : ℕ) (room : length (keyed f n) < 2147483648) (root
       unnamed : (r : Bool) (m : ℕ) (b : Bool) → (r || not (eqb m 0) || b) ≡ false → m ≡ 0
       unnamed r m b e = eqb-true m 0 (not-false (eqb m 0) (both-false r (not (eqb m 0)) (both-false (r || not (eqb m 0)) b e .0) .1))
 
-  pub walk-tied : (xs : List Spot) → Each (λ (x : Spot). Mentions f n (x .place) (x .of)) xs → (S : State) (C : Coding) → Tied f n S C
+  pub walk-tied : (xs : List Spot) → Each (Right f n) xs → (S : State) (C : Coding) → Tied f n S C
       → Tied f n (walked told S xs) (codeKeys root away C (map (λ (x : Spot). x .of) xs))
   unfolding walked codeKeys
   walk-tied [] end S C T = T

@@ -1,26 +1,23 @@
 -- Two tables that grow side by side, entry by entry, agree at every index; so what a tree says is what its table of flat answers says.
 use mathlib.Core.Path.{_≡_, refl, ap, ap₂, _∙_}
-use mathlib.Core.Bool.{Bool, true, false, cond}
-use mathlib.Core.Option.{none, some}
 use mathlib.Core.List.{List, [], _∷_, _++_, map, map-append, append-nil}
 use Prim.Native.Nat.{ℕ, zero, suc}
-use native.Mathlib.Decide.{ℕ-discrete}
 use lib.Dec.{eqb}
 use lib.ListN.{getD}
 use borrow.Author.Tests.{ne-eqb}
 use Rattle.definition.specs.Edition.{Edition, expressions}
 use Rattle.definition.specs.Lists.{gather}
-use Rattle.definition.specs.Contents.{size, stmtLong, exprWord, textAt}
+use Rattle.definition.specs.Contents.{size, exprWord}
 use Rattle.definition.specs.Owners.{stmtKind, stmtField}
-use Rattle.definition.specs.Values.{Value, value}
-use Rattle.definition.specs.References.{roots, itemExprs}
-use Rattle.definition.specs.Meaning.{itemValues}
+use Rattle.definition.specs.Values.{Value}
+use Rattle.definition.specs.References.{roots}
 use Rattle.definition.specs.Ssa.{Expr, exprUses, optionUses, uses}
 use Rattle.definition.specs.Ssa.Expr.{Opaque}
-use Rattle.definition.specs.Ssa.Kind.{Assign, Store, Call, Branch, Flags, Return, Other}
-use Rattle.definition.specs.Read.{treeAt, tree, trees, allTrees, kindAt, when}
+use Rattle.definition.specs.Read.{treeAt, tree, trees, allTrees, kindAt}
+use Rattle.definition.proofs.Bools.{by-test}
 use Rattle.records.proofs.Trees.{by-tag}
 use Rattle.reads.specs.Uses.{nodeUses, usesBelow, usesIn, stmtUses, useValue}
+use Rattle.reads.proofs.Codes.{by-code}
 
 -- ---- tables side by side
 pub data Both {A : Type 0} {B : Type 0} (P : A → B → Type 0) : List A → List B → Type 0 where
@@ -85,30 +82,16 @@ module _ (E : Edition) (f : List ℕ) where
   kind-reads : (t : List Expr) (i : ℕ) → gather exprUses (map (treeAt t) (roots f i)) ≡ uses (kindAt E f t i)
   unfolding roots kindAt uses optionUses gather
   kind-reads t i =
-      let k = stmtKind f i in
-      go k (stmtField f i) (eqb (stmtField f i 0) 1) (ℕ-discrete k 1) (ℕ-discrete k 2) (ℕ-discrete k 3) (ℕ-discrete k 4) (ℕ-discrete k 5) (ℕ-discrete k 6)
+      let w = stmtField f i in
+      by-code (stmtKind f i) (λ e. rw e (one (treeAt t (w 2)))) (λ e. rw e (two (treeAt t (w 1)) (treeAt t (w 2)))) (λ e. rw e) (λ e. rw e)
+      (λ e. rw e (two (treeAt t (w 1)) (treeAt t (w 2)))) (λ e. by-test (eqb (w 0) 1) (λ q. rw (e, q) (one (treeAt t (w 1)))) (λ q. rw (e, q)))
+      (λ a b c d g h. rw (a, b, c, d, g, h))
     where
       one : (a : Expr) → exprUses a ++ [] ≡ exprUses a
       one a = append-nil (exprUses a)
 
       two : (a b : Expr) → exprUses a ++ (exprUses b ++ []) ≡ exprUses a ++ exprUses b
       two a b = ap (λ (l : List Value). exprUses a ++ l) (one b)
-
-      go : (k : ℕ) (w : ℕ → ℕ) (there : Bool) → Dec (k ≡ 1) → Dec (k ≡ 2) → Dec (k ≡ 3) → Dec (k ≡ 4) → Dec (k ≡ 5) → Dec (k ≡ 6)
-          → gather exprUses (map (treeAt t) (cond (eqb k 1) (w 2 ∷ []) (cond (eqb k 2) (w 1 ∷ w 2 ∷ []) (cond (eqb k 5) (w 1 ∷ w 2 ∷ []) (cond (eqb k 6) (cond there (w 1 ∷ []) []) (itemExprs f i))))))
-          ≡ uses (cond (eqb k 1) (Assign (value (w 0) (w 1)) (treeAt t (w 2))) (cond (eqb k 2) (Store (w 0) (treeAt t (w 1)) (treeAt t (w 2)))
-          (cond (eqb k 3) (Call (textAt E f (w 0) (w 1)) (map (treeAt t) (itemExprs f i)) (when (w 3) (value (w 4) (w 5))) (itemValues f i))
-          (cond (eqb k 4) (Branch (when (w 0) (textAt E f (w 1) (w 2))) (when (w 3) (stmtLong f i 8)) (map (treeAt t) (itemExprs f i)))
-          (cond (eqb k 5) (Flags (eqb (w 0) 1) (treeAt t (w 1)) (treeAt t (w 2)))
-          (cond (eqb k 6) (Return (cond there (some (treeAt t (w 1))) none)) (Other (textAt E f (w 0) (w 1)) (map (treeAt t) (itemExprs f i)) (itemValues f i))))))))
-      go k w there (yes e) b c d g h = rw e (one (treeAt t (w 2)))
-      go k w there (no a) (yes e) c d g h = rw e (two (treeAt t (w 1)) (treeAt t (w 2)))
-      go k w there (no a) (no b) (yes e) d g h = rw e
-      go k w there (no a) (no b) (no c) (yes e) g h = rw e
-      go k w there (no a) (no b) (no c) (no d) (yes e) h = rw e (two (treeAt t (w 1)) (treeAt t (w 2)))
-      go k w true (no a) (no b) (no c) (no d) (no g) (yes e) = rw e (one (treeAt t (w 1)))
-      go k w false (no a) (no b) (no c) (no d) (no g) (yes e) = rw e
-      go k w there (no a) (no b) (no c) (no d) (no g) (no h) = rw (ne-eqb k 1 a, ne-eqb k 2 b, ne-eqb k 3 c, ne-eqb k 4 d, ne-eqb k 5 g, ne-eqb k 6 h)
 
   -- what a statement reads is what its Use nodes name
   pub uses-are : (i : ℕ) → map (useValue f) (stmtUses f i) ≡ uses (kindAt E f (allTrees E f) i)
