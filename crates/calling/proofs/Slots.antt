@@ -26,7 +26,7 @@ use Rattle.records.proofs.Trees.{tree-lower, tree-past}
 use Rattle.text.specs.Supplied.{isGlobal, globalText}
 use Rattle.text.proofs.Lookups.{global-is}
 use Rattle.room.specs.Room.{Room, emit, emitAll, seen}
-use Rattle.room.proofs.Laws.{next, more, done, pieces-are}
+use Rattle.room.proofs.Laws.{next, more, done, one, pieces-are}
 use Rattle.render.specs.Gens.{rendered}
 use Rattle.lowering.specs.Lowered.{loweringOf, exprOf}
 use Rattle.calls.specs.Spelled.{directText}
@@ -103,7 +103,7 @@ module _ (E : Edition) (f : List ℕ) where
   first-slot t n r r₀ b s h q k =
       let named : slotName (loweringOf E f) (treeAt (allTrees E f) n) ≡ some (slotText f t n) =
       slot-is n ∙ ap (λ (p : Bool). cond p (some (slotText f (text E) n)) none) (sym s ∙ h) ∙ ap (λ (j : ℕ). some (slotText f j n)) q in
-      rw named (next r r₀ (symbol (slotText f t n)) [] k (done r))
+      rw named (one r r₀ (symbol (slotText f t n)) k)
 
   pub first-computed : (n : ℕ) (r r₀ : Room) (b : Bool) → b ≡ isSlot f n → b ≡ false → seen r ≡ seen (emitAll r₀ (computedOf E f n))
       → seen r ≡ seen (emitAll r₀ (firstTokens E f n))
@@ -119,7 +119,7 @@ module _ (E : Edition) (f : List ℕ) where
   put-computed own r r₂ r₁ r₀ n pos p a b c =
       next r r₀ (punct (txt "(*")) (exprOf E f n ++ (punct (txt ")") ∷ [])) a
       (more r r₂ r₁ (exprOf E f n) (punct (txt ")") ∷ []) (pieces-are r₂ r₁ (rendered E f pos true n) (exprOf E f n) b (rendered-is E f own pos n p))
-      (next r r₂ (punct (txt ")")) [] c (done r)))
+      (one r r₂ (punct (txt ")")) c))
 
   -- of n arguments
   pub indirect-none : (item n : ℕ) (r : Room) → n ≡ 0 → seen r ≡ seen (emitAll r (indirect (loweringOf E f) (treesOf E f (listed f item n))))
@@ -152,7 +152,7 @@ module _ (E : Edition) (f : List ℕ) where
 
     pub target-direct : (r r₀ : Room) → b ≡ false → r ≡ emit r₀ (symbol (directText E f (textAt E f start len))) → seen r ≡ seen (emitAll r₀ (targetOf E f i item))
     unfolding targetOf
-    target-direct r r₀ h k = rw (computed, h, direct-is) (next r r₀ (symbol (directText E f (textAt E f start len))) [] k (done r))
+    target-direct r r₀ h k = rw (computed, h, direct-is) (one r r₀ (symbol (directText E f (textAt E f start len))) k)
 
 -- ---- the code's tests, by the words that were read
 module _ (f : List ℕ) (n m : ℕ) (many : m ≡ size f expressions) where
