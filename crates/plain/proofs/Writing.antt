@@ -1,34 +1,26 @@
 -- What each writer's calls put one behind the other is the list of pieces that its contract says, by `next`, `more` and `done`.
-use mathlib.Core.Path.{_≡_, refl, ap, _∙_}
-use mathlib.Core.Bool.{true, false}
+use mathlib.Core.Path.{_≡_, refl, _∙_}
+use mathlib.Core.Bool.{false}
 use mathlib.Core.Option.{Option, none, some}
 use mathlib.Core.List.{List, []}
 use Prim.Native.Nat.{ℕ}
 use borrow.Author.Tests.{eq-eqb, ne-eqb}
-use Rattle.definition.specs.Edition.{Edition, statements}
+use Rattle.definition.specs.Edition.{Edition}
 use Rattle.definition.specs.Texts.{txt}
 use Rattle.definition.specs.Words.{word}
-use Rattle.definition.specs.Contents.{size}
 use Rattle.definition.specs.Owners.{stmtField}
-use Rattle.definition.specs.Shape.{owned}
 use Rattle.definition.specs.Ssa.{Expr}
 use Rattle.definition.specs.Read.{treeAt, allTrees, read}
 use Rattle.definition.specs.Offsets.{offsets, stackOff}
 use Rattle.definition.specs.Numbers.{slot}
-use Rattle.definition.specs.Tokens.{Token, tok}
+use Rattle.definition.specs.Tokens.{tok}
 use Rattle.definition.specs.Render.{slotOr}
 use Rattle.definition.specs.Lower.{Lowering, returnTokens}
 use Rattle.room.specs.Room.{Room, emit, emitAll, seen}
 use Rattle.room.proofs.Laws.{next, more, done, one}
-use Rattle.render.specs.Gens.{rendered}
 use Rattle.lowering.specs.Lowered.{loweringOf, exprOf}
 use Rattle.plain.specs.Pieces.{becomes, resultOf, throughOf, destinationOf, storeOf}
-use Rattle.lowering.proofs.Gen.{lowering-returns, rendered-is}
-
--- an expression behind all statements
-pub expr-put : (r₁ r₀ : Room) (E : Edition) (f : List ℕ) (pos n : ℕ) → owned f ≡ true → pos ≡ size f statements
-    → seen r₁ ≡ seen (emitAll r₀ (rendered E f pos true n)) → seen r₁ ≡ seen (emitAll r₀ (exprOf E f n))
-expr-put r₁ r₀ E f pos n own p e = e ∙ ap (λ (ts : List Token). seen (emitAll r₀ ts)) (rendered-is E f own pos n p)
+use Rattle.lowering.proofs.Gen.{lowering-returns}
 
 -- ---- what a Return gives back
 no-result : (L : Lowering) (o : Option Expr) → L .returns ≡ false → returnTokens L o ≡ []
