@@ -30,7 +30,7 @@ use Rattle.passes.proofs.Goals.{back-within, chosen}
 use Rattle.coding.proofs.Coding.{Codes, CodedRow, indent-is, label-row, backs-row}
 use Rattle.coding.proofs.Scanning.{part, part-cons, backB, back-rows}
 use Rattle.coding.proofs.Changed.{headed-line, headed-coded, whiled-line, whiled-coded}
-use Rattle.coding.proofs.Shapes.{rows-split, do-rows, do-behind, do-length}
+use Rattle.coding.proofs.Shapes.{rows-split, do-shape}
 use Rattle.coding.proofs.Trying.{linesIn, lines-length, lines-cut, outAt, out-no, out-goal, goal-head, Forms, trying}
 use Rattle.coding.proofs.Held.{Held, Step, map-append, coded-back, coded-at, reached-at, aimed-at, lines-split}
 
@@ -213,9 +213,9 @@ module _ (ls : List Line) (l : ℕ) (R S : List ℕ) (n : ℕ) (H : Held ls l R 
       forms : Forms ls l R k g (formedDo R k g) n (F g) (headed w) (whiled (at R g)) (part R (g + 1) (n - (g + 1)))
       unfolding b
       forms =
-          let a : g ≤ length R = omega (arith, within, H .in-table) in
+          let s = do-shape R k g (within .0) (omega (arith, within, H .in-table)) n (within .1) (H .in-table) in
           record {
-            rows = do-rows R k g (within .0) a n (within .1) (H .in-table);
+            rows = s .0;
             lines =
                 sym (ap₂ (λ (x y : Line). pre ++ x ∷ (map raise (M g) ++ y ∷ P g)) (headed-line ls w kind-1 head-fits)
                 (whiled-line ls b (back-edge .kind) ∙ ap (λ (z : ℕ). whileLine z (L b)) (back-edge .level)));
@@ -223,8 +223,8 @@ module _ (ls : List Line) (l : ℕ) (R S : List ℕ) (n : ℕ) (H : Held ls l R 
             last = whiled-coded ls l b cb (back-edge .kind) (back-edge .ends);
             behind = coded-back ls l R S n H (g + 1) (omega (arith, within));
             room = H .in-table;
-            long = do-length R k g (within .0) a n (within .1) (H .in-table);
-            kept = do-behind R k g (within .0) a n (within .1) (H .in-table);
+            long = s .2;
+            kept = s .1;
           }
 
     pub do-step : Step ls l R S n (doTried R S n k) (doTry pre (L w) X)

@@ -28,7 +28,7 @@ use Rattle.passes.proofs.Goals.{label-within, if-after}
 use Rattle.coding.proofs.Coding.{Codes, CodedRow, indent-is, cond-row}
 use Rattle.coding.proofs.Scanning.{part, cutB, scan-rows}
 use Rattle.coding.proofs.Changed.{opened-line, opened-coded, close-line, close-coded}
-use Rattle.coding.proofs.Shapes.{if-rows, if-behind, if-length}
+use Rattle.coding.proofs.Shapes.{if-shape}
 use Rattle.coding.proofs.Trying.{linesIn, lines-length, lines-cut, outAt, out-some, out-no, out-goal, goal-head, Forms, trying}
 use Rattle.coding.proofs.Held.{Held, Step, map-append, coded-back, coded-at, reached-at, lines-split}
 
@@ -151,15 +151,16 @@ module _ (ls : List Line) (l : ℕ) (R S : List ℕ) (n : ℕ) (H : Held ls l R 
           let i : k < g = within .0 in
           let a : g ≤ length R = omega (arith, within, H .in-table) in
           let b : g ≤ n = omega (arith, within) in
+          let s = if-shape R k g i a n b room in
           record {
-            rows = if-rows R k g i a n b room;
+            rows = s .0;
             lines = sym (ap₂ (λ (x y : Line). pre ++ x ∷ (map raise (M g) ++ y ∷ P g)) (opened-line ls w kind-2) (close-line ls w ∙ ap closer (sym (indent-is ls w))));
             head = opened-coded ls l w cw kind-2 (open-sort (condName (sort (L w))) refl (cond-row ls l w cw ∙ is-cond));
             last = close-coded ls l w cw;
             behind = coded-back ls l R S n H g b;
             room = omega arith;
-            long = if-length R k g i a n b room;
-            kept = if-behind R k g i a n b room;
+            long = s .2;
+            kept = s .1;
           }
 
     -- the try, with room for one row more where a region is formed

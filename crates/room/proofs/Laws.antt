@@ -125,15 +125,19 @@ piece-as x y k s t e h = rw (← h) e
 pub pieces-are : (r r₀ : Room) (ps qs : List Token) → seen r ≡ seen (emitAll r₀ ps) → ps ≡ qs → seen r ≡ seen (emitAll r₀ qs)
 pieces-are r r₀ ps qs h p = rw (← p) h
 
--- a line ended behind its pieces is that line
+-- a line ended behind its tokens, or behind its pieces, is that line
+pub line-ended : (l l′ : List ℕ) (r₀ r₁ : Room) (o : Out) (x : Line) → seen r₁ ≡ seen (emitAll r₀ (x .toks)) → Ended l (r₁ .out) (x .indent) (x .addr) l′ o
+    → seenSheet (sheetOf l′ (r₁ .tokens) (r₁ .text) o) ≡ seenSheet (writeAll (record { lines = l; room = r₀ }) (x ∷ []))
+unfolding writeAll writeLine
+line-ended l l′ r₀ r₁ o x e d =
+    ap seenSheet (d .whole (r₁ .tokens) (r₁ .text))
+    ∙ seen-end (record { lines = l; room = r₁ }) (record { lines = l; room = emitAll r₀ (x .toks) }) (sheet-seen l r₁ (emitAll r₀ (x .toks)) e) (x .indent) (x .addr)
+
 pub line-ends : (l l′ : List ℕ) (r₀ r₁ : Room) (o : Out) (n : ℕ) (a : Option ℕ) (ps : List Token)
     → seen r₁ ≡ seen (emitAll r₀ ps) → Ended l (r₁ .out) n a l′ o
     → seenSheet (sheetOf l′ (r₁ .tokens) (r₁ .text) o) ≡ seenSheet (writeAll (record { lines = l; room = r₀ }) (line n a ps ∷ []))
-unfolding writeAll writeLine line
-line-ends l l′ r₀ r₁ o n a ps e d =
-    ap seenSheet (d .whole (r₁ .tokens) (r₁ .text))
-    ∙ seen-end (record { lines = l; room = r₁ }) (record { lines = l; room = emitAll r₀ (merge ps) })
-    (sheet-seen l r₁ (emitAll r₀ (merge ps)) (e ∙ sym (merged r₀ ps))) n a
+unfolding line
+line-ends l l′ r₀ r₁ o n a ps e = line-ended l l′ r₀ r₁ o (line n a ps) (e ∙ sym (merged r₀ ps))
 
 -- lines one after the other
 pub writes : (s₂ s₁ s₀ : Sheet) (xs ys : List Line) → seenSheet s₁ ≡ seenSheet (writeAll s₀ xs) → seenSheet s₂ ≡ seenSheet (writeAll s₁ ys)

@@ -1,12 +1,12 @@
 -- The tests counted one line at a time: what is counted, and those of the lines still ahead, are all of them.
 use mathlib.Core.Path.{_≡_, refl, sym, ap, _∙_}
 use mathlib.Core.Bool.{Bool, true, false, cond}
-use mathlib.Core.List.{List, _∷_, map}
+use mathlib.Core.List.{List, map}
 use Prim.Native.Nat.{ℕ, suc, _+_, _-_, _≤_, _<_}
 use native.Mathlib.Omega.{arith}
 use Rattle.definition.specs.Texts.{txt}
 use Rattle.definition.specs.Lists.{range, count}
-use Rattle.definition.specs.Tokens.{Line, keyword}
+use Rattle.definition.specs.Tokens.{keyword}
 use Rattle.definition.specs.Sorts.{firstIs}
 use Rattle.definition.specs.Listing.{tests}
 use Rattle.definition.proofs.ListLaws.{bit, bit-le, count-cons}

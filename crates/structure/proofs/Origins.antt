@@ -1,13 +1,12 @@
 -- Every row comes of a lowered line: the passes put in closing rows, which have origin 0, and leave the origin of every other row as it is.
 use mathlib.Core.Path.{_≡_, sym, subst}
 use mathlib.Core.Bool.{Bool, true, false}
-use mathlib.Core.List.{List, map}
+use mathlib.Core.List.{List}
 use Prim.Native.Nat.{ℕ, zero, suc, _+_, _-_, _/_, _%_, _≤_, _<_}
 use native.Mathlib.Omega.{arith}
 use borrow.Author.Tests.{ltb-true}
 use lib.Dec.{eqb, ltb}
-use lib.ListN.{length, take, drop, set, replicate}
-use Rattle.definition.specs.Lists.{range}
+use lib.ListN.{length, take, set, replicate}
 use Rattle.definition.specs.Tokens.{Line}
 use Rattle.definition.specs.Sorts.{sort}
 use Rattle.definition.proofs.Bools.{by-cond}
