@@ -7,7 +7,8 @@ use Rattle.definition.proofs.ListLaws.{count-append}
 use Rattle.records.proofs.Ranges.{gather-last}
 use Rattle.definition.specs.Lists.{all, count, gather, range, allBelow, sumBelow}
 
-singles : {A : Type 0} (g : ℕ → A) (ns : List ℕ) → map g ns ≡ gather (λ i. g i ∷ []) ns
+-- an element for each number, as a list of one
+pub singles : {A : Type 0} (g : ℕ → A) (ns : List ℕ) → map g ns ≡ gather (λ i. g i ∷ []) ns
 unfolding gather
 singles g [] = refl
 singles {A} g (n ∷ ns) = ap (λ (l : List A). g n ∷ l) (singles g ns)

@@ -136,7 +136,7 @@ module _ (own : Bool) where
 -- what goes by parts, over records from a on
 by-parts : {A : Type 0} {B : Type 0} (h : List A → List B) → ((xs ys : List A) → h (xs ++ ys) ≡ h xs ++ h ys) → (g : ℕ → A) (a n : ℕ)
     → h (map g (range a (n + 1))) ≡ h (map g (range a n)) ++ h (map g (range (a + n) 1))
-by-parts {A} h parts g a n =
+by-parts h parts g a n =
     ap (λ (l : List ℕ). h (map g l)) (range-parts a n 1) ∙ ap h (map-append g (range a n) (range (a + n) 1)) ∙ parts (map g (range a n)) (map g (range (a + n) 1))
 
 pub phis-parts : (f : List ℕ) (a n : ℕ) → phiDefs f a (n + 1) ≡ phiDefs f a n ++ phiDefs f (a + n) 1

@@ -34,6 +34,10 @@ unfolding putAll
 put-more = run-then putAll put (λ r. refl) (λ r x xs. refl)
 
 -- ---- into zeros
+-- the next number, behind those that stand there
+pub padded-next : (n : ℕ) (xs : List ℕ) (i x : ℕ) → length xs ≡ i → i < n → set (padded n xs) i x ≡ padded n (xs ++ (x ∷ []))
+padded-next n xs i x e h = ap (λ (k : ℕ). set (padded n xs) k x) (sym e) ∙ padded-set n xs x (omega arith)
+
 pub padded-none : (n : ℕ) → replicate n 0 ≡ padded n []
 unfolding padded
 padded-none n = let a : n - 0 ≡ n = omega arith in sym (rw a)

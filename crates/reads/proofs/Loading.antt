@@ -15,10 +15,10 @@ use Rattle.definition.specs.Read.{treeAt, tree, trees, allTrees}
 use Rattle.definition.specs.Inline.{hasLoad}
 use Rattle.definition.specs.Listing.{padded}
 use Rattle.records.proofs.Trees.{grown-length, by-tag}
-use Rattle.records.proofs.Padded.{padded-set}
 use Rattle.values.specs.Tables.{at}
 use Rattle.values.proofs.Ranges.{zeros-at}
 use Rattle.reads.specs.Loads.{loadOf, loadsBelow, loadBit}
+use Rattle.reads.proofs.Filling.{padded-next}
 use Rattle.reads.proofs.Trees.{Both, none-left, and-then, beside-trees}
 
 -- ---- the table and the trees
@@ -104,8 +104,7 @@ load-turn f l n m i x c h room e p =
     let s : i + 1 ≡ suc i = omega arith in
     let k = grown-length (loadsBelow f) (λ n. loadOf f (loadsBelow f n) n) refl (λ n. refl) i in
     let v : x ≡ loadOf f (loadsBelow f i) i = p ∙ ap (λ (z : List ℕ). loadOf f z i) e ∙ same-of f n (loadsBelow f i) i in
-    let u : set (padded n (loadsBelow f i)) (length (loadsBelow f i)) x ≡ padded n (loadsBelow f i ++ (x ∷ [])) = padded-set n (loadsBelow f i) x (omega arith) in
-    rw (e, s) (rw k at u ∙ ap (λ (y : ℕ). padded n (loadsBelow f i ++ (y ∷ []))) v)
+    rw (e, s) (padded-next n (loadsBelow f i) i x k (omega arith) ∙ ap (λ (y : ℕ). padded n (loadsBelow f i ++ (y ∷ []))) v)
 
 pub load-end : (f l : List ℕ) (n m i : ℕ) → m ≡ size f expressions → i ≤ m → m ≤ i → l ≡ loaded f n i → (E : Edition) → l ≡ padded n (map (λ x. cond (hasLoad x) 1 0) (allTrees E f))
 unfolding loaded allTrees loadBit

@@ -1,6 +1,6 @@
 -- The roots of a statement, and the statements of the file, are gone through in order: what is put so far, or is left to put, is a run of them.
 use mathlib.Core.Path.{_≡_, refl, sym, ap, _∙_}
-use mathlib.Core.List.{List, [], _∷_, _++_, map, map-append}
+use mathlib.Core.List.{List, [], _∷_, map, map-append}
 use Prim.Native.Nat.{ℕ, suc, _+_, _-_, _≤_, _<_}
 use native.Mathlib.Omega.{arith}
 use lib.ListN.{length, set, replicate}
@@ -12,13 +12,12 @@ use Rattle.definition.specs.Listing.{padded}
 use Rattle.definition.proofs.Runs.{each-turn, each-end}
 use Rattle.records.proofs.Below.{sum-le}
 use Rattle.records.proofs.Ranges.{range-last, gather-last}
-use Rattle.records.proofs.Padded.{padded-set}
 use Rattle.references.specs.Named.{rootCount, rootAt}
 use Rattle.references.proofs.Naming.{names-start, roots-are}
 use Rattle.values.proofs.Ranges.{map-length, gather-length}
 use Rattle.reads.specs.Uses.{usesIn, stmtUses, useOrder, useStart, useStarts}
 use Rattle.reads.specs.Filling.{Filling, filling, putAll, usesUnder}
-use Rattle.reads.proofs.Filling.{put-append, put-more, filled}
+use Rattle.reads.proofs.Filling.{put-append, put-more, padded-next, filled}
 
 -- ---- the roots of statement i, of which m are left from the j-th on
 unfoldable pub rootUses : List ℕ → ℕ → ℕ → ℕ → ℕ → List ℕ
@@ -67,10 +66,9 @@ pub starts-turn : (f : List ℕ) (m n i x : ℕ) (l : List ℕ) → n ≡ size f
 unfolding startsBefore
 starts-turn f m n i x l c h room e a =
     let s : i + 1 ≡ suc i = omega arith in
-    let k = map-length (useStart f) 0 i in
-    let u : set (padded m (map (useStart f) (range 0 i))) (length (map (useStart f) (range 0 i))) (useStart f i) ≡ padded m (map (useStart f) (range 0 i) ++ (useStart f i ∷ [])) =
-    padded-set m (map (useStart f) (range 0 i)) (useStart f i) (omega arith) in
-    rw (a, e, s, range-last i) (rw k at u ∙ ap (padded m) (sym (map-append (useStart f) (range 0 i) (i ∷ []))))
+    rw (a, e, s, range-last i)
+    (padded-next m (map (useStart f) (range 0 i)) i (useStart f i) (map-length (useStart f) 0 i) (omega arith)
+    ∙ ap (padded m) (sym (map-append (useStart f) (range 0 i) (i ∷ []))))
 
 pub start-length : (f : List ℕ) (i : ℕ) → length (usesBefore f i) ≡ useStart f i
 unfolding usesBefore useStart

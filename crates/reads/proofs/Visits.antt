@@ -111,11 +111,11 @@ ordered-runs f order₀ starts₀ order starts o p q h = record {
 
 -- ---- runs of steps, at places and at the numbers of nodes
 module _ (step : List ℕ → ℕ → List ℕ) where
-  pub visit-none : (l : List ℕ) → visit step l [] ≡ l
+  visit-none : (l : List ℕ) → visit step l [] ≡ l
   unfolding visit
   visit-none l = refl
 
-  pub visit-next : (l : List ℕ) (i : ℕ) (is : List ℕ) → visit step l (i ∷ is) ≡ visit step (step l i) is
+  visit-next : (l : List ℕ) (i : ℕ) (is : List ℕ) → visit step l (i ∷ is) ≡ visit step (step l i) is
   unfolding visit
   visit-next l i is = refl
 
@@ -123,17 +123,17 @@ module _ (step : List ℕ → ℕ → List ℕ) where
   visit-append is js l = run-append (visit step) step visit-none visit-next l is js
 
   module _ (numbers : List ℕ) (base : ℕ) where
-    abbrev pub nodes : List ℕ → List ℕ → List ℕ
+    abbrev nodes : List ℕ → List ℕ → List ℕ
     nodes l ns = visit step l (slots numbers base ns)
 
-    abbrev pub node : List ℕ → ℕ → List ℕ
+    abbrev node : List ℕ → ℕ → List ℕ
     node l n = step l (at numbers (base + n))
 
-    pub nodes-none : (l : List ℕ) → nodes l [] ≡ l
+    nodes-none : (l : List ℕ) → nodes l [] ≡ l
     unfolding visit slots
     nodes-none l = refl
 
-    pub nodes-next : (l : List ℕ) (n : ℕ) (ns : List ℕ) → nodes l (n ∷ ns) ≡ nodes (node l n) ns
+    nodes-next : (l : List ℕ) (n : ℕ) (ns : List ℕ) → nodes l (n ∷ ns) ≡ nodes (node l n) ns
     unfolding visit slots
     nodes-next l n ns = refl
 
