@@ -71,7 +71,7 @@ module _ (f numbers names live phi : List ℕ) (P : Places) (G : Results f P num
       tells g t e =
           ap (at t) (number ∙ ap (λ (Q : Places). at numbers (Q .stmts + i)) (G .ground .where-all))
           ∙ ap₂ (λ (a b : List ℕ). at a (at b (placesOf f .stmts + i))) e (G .ground .values)
-          ∙ table-read f (length numbers) g (placesOf f .stmts + i) (stmtField f i 4) (stmtField f i 5) here key (word-small f bytes _)
+          ∙ table-read f (length numbers) g (placesOf f .stmts + i) result (record { here = here; is = key; small = word-small f bytes _ })
 
       module _ (b : Bool) (test : b ≡ readBy live phi m) where
         read-is : (E : Edition) → isRead (readsOf (read E f)) result ≡ b

@@ -5,7 +5,7 @@ use mathlib.Core.List.{List, [], _∷_, _++_, map}
 use Rattle.definition.specs.Lists.{any, gather}
 use Rattle.definition.specs.Values.{Value, eqv, before, lesser, greater}
 use Rattle.definition.specs.Classes.{Member, Pair, find, relabel, union, unions, alone}
-use Rattle.definition.proofs.Bools.{by-test, by-cond, both-false, or-right, is-false}
+use Rattle.definition.proofs.Bools.{by-test, by-cond, or-right, is-false}
 use Rattle.definition.proofs.ListLaws.{Each, end, _▸_, each-to, each-map}
 use Rattle.definition.proofs.Runs.{run-append}
 use Rattle.definition.proofs.Equal.{eqv-true, eqv-refl}
@@ -13,14 +13,6 @@ use Rattle.definition.proofs.Equal.{eqv-true, eqv-refl}
 -- is the value a member
 unfoldable pub has : List Member → Value → Bool
 has t v = any (λ x. eqv (x .of) v) t
-
--- what is no member is its own root
-pub find-none : (t : List Member) (v : Value) → has t v ≡ false → find t v ≡ v
-unfolding has any find
-find-none [] v e = refl
-find-none (x ∷ t) v e =
-    let b = both-false (eqv (x .of) v) (any (λ x. eqv (x .of) v) t) e in
-    rw (b .0) (find-none t v (b .1))
 
 -- what holds of every root holds of a member's
 pub find-root : (Q : Value → Type 0) (t : List Member) (v : Value) → Each (λ x. Q (x .root)) t → has t v ≡ true → Q (find t v)

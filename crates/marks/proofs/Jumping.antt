@@ -55,7 +55,7 @@ module _ (E : Edition) (f : List ℕ) where
       ∙ gather-same (λ i. targetOf (kindAt E f (allTrees E f) i)) (targetAt f) (target-is (allTrees E f)) (range 0 (size f statements))
 
   -- ---- blocks
-  next-is : (b m : ℕ) → b + suc m ≡ size f blocks → nextOf (map B (range (b + 1) m)) ≡ nextAt f b
+  pub next-is : (b m : ℕ) → b + suc m ≡ size f blocks → nextOf (map B (range (b + 1) m)) ≡ nextAt f b
   unfolding nextOf nextAt range blockAt startAt
   next-is b zero e = rw (le-ltb (b + 1) (size f blocks) (omega arith))
   next-is b (suc m) e = rw (lt-ltb (b + 1) (size f blocks) (omega arith))

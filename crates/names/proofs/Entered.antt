@@ -24,7 +24,7 @@ use Rattle.definition.proofs.ListLaws.{Each, end, _▸_}
 use Rattle.records.proofs.Ranges.{range-last, map-gather, gather-same}
 use Rattle.records.proofs.Parts.{stmts-are}
 use Rattle.values.specs.Tables.{at, numbered, table}
-use Rattle.values.proofs.Tables.{table-same, eqv-swap, zeros-are}
+use Rattle.values.proofs.Tables.{table-same, eqv-swap, zeros-are, table-read}
 use Rattle.values.proofs.Placed.{keyed-length}
 use Rattle.values.proofs.Ranges.{map-length}
 use Rattle.reads.proofs.Codes.{by-code}
@@ -32,7 +32,7 @@ use Rattle.reads.proofs.ReadAtAll.{bit-so}
 use Rattle.names.specs.Codes.{coded}
 use Rattle.names.specs.Spots.{Spot, useSpots, entrySpots, ticked, upTo}
 use Rattle.names.specs.Given.{Numbered, EntryRead, entryTable}
-use Rattle.names.proofs.Mentioned.{Right, coded-read, coded-write, each-runs, arg-named, uses-right}
+use Rattle.names.proofs.Mentioned.{Right, coded-write, each-runs, arg-named, uses-right}
 use Rattle.names.proofs.Reading.{valuesOf, use-values}
 use Rattle.names.proofs.Params.{isRead}
 
@@ -143,7 +143,7 @@ module _ (f : List ℕ) (bytes : (k : ℕ) → Fits w8 (getD f k 0)) (ns : List 
       let q : ℕ → Bool = (λ a. any (eqv (value a 0)) (entryReads (read E f))) in
       up-same (isRead ns es) (λ j. q (argAt f j)) (size f args)
       (λ j h. ap₂ (λ (t u : List ℕ). not (eqb (at t (at u j)) 0)) e (given .are)
-      ∙ ap (λ (x : ℕ). not (eqb x 0)) (coded-read f n j (value (argAt f j) 0) (arg-named f bytes (given .own) n (given .room) j h) (λ v. cond (any (eqv v) (entryReads (read E f))) 1 0))
+      ∙ ap (λ (x : ℕ). not (eqb x 0)) (table-read f n (λ v. cond (any (eqv v) (entryReads (read E f))) 1 0) j (value (argAt f j) 0) (arg-named f bytes (given .own) n (given .room) j h))
       ∙ bit-so (q (argAt f j)))
       ∙ sym (count-is q (argAt f) (size f args))
 

@@ -23,9 +23,10 @@ use Rattle.definition.proofs.ListLaws.{Each, end, _▸_, each-append}
 use Rattle.defined.specs.Defined.{itemValue}
 use Rattle.values.specs.Keys.{stmtKey, itemKey, placesOf}
 use Rattle.values.proofs.Placed.{at-stmt, at-item, stmt-here, item-here}
+use Rattle.values.proofs.Tables.{Names}
 use Rattle.names.specs.Spots.{spot}
 use Rattle.naming.specs.Walk.{inputSpot, phiSpots, fieldSpots, itemSpot, itemSpots, stmtSpots, blockSpots, spots}
-use Rattle.names.proofs.Mentioned.{Mentions, Right, each-run, each-runs, named-at, phi-named, input-named, uses-right}
+use Rattle.names.proofs.Mentioned.{Right, each-run, each-runs, named-at, phi-named, input-named, uses-right}
 use Rattle.naming.proofs.Small.{parts-below}
 
 module _ (f : List ℕ) (bytes : (k : ℕ) → Fits w8 (getD f k 0)) (own : owned f ≡ true) (n : ℕ) (room : placesOf f .total ≤ n) where
@@ -46,7 +47,7 @@ module _ (f : List ℕ) (bytes : (k : ℕ) → Fits w8 (getD f k 0)) (own : owne
       (at-stmt f n own i h ∙ rw (eqb-true (stmtKind f i) kCall (both-true (eqb (stmtKind f i) kCall) (eqb (stmtField f i 3) 1) e .0), both-true (eqb (stmtKind f i) kCall) (eqb (stmtField f i 3) 1) e .1))
       (word-small f bytes (place f statements stmtWords i 9)) ▸ end) (λ e. end))
 
-  item-named : (i j : ℕ) → i < size f statements → j < valueItems f i → Mentions f n (placesOf f .items + (firstItem f i + exprItems f i + j)) (itemValue f (firstItem f i + exprItems f i + j))
+  item-named : (i j : ℕ) → i < size f statements → j < valueItems f i → Names f n (placesOf f .items + (firstItem f i + exprItems f i + j)) (itemValue f (firstItem f i + exprItems f i + j))
   unfolding itemKey itemValue
   item-named i j h k = named-at f bytes own n room _ _ (item-here f own i j h k) (at-item f n own i j h k) (word-small f bytes (place f lists itemWords (firstItem f i + exprItems f i + j) 1))
 

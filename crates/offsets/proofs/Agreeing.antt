@@ -23,9 +23,10 @@ use Rattle.values.specs.declared.places.Places.{Places}
 use Rattle.values.specs.Keys.{phiKey, inputKey, stmtKey, placesOf}
 use Rattle.values.specs.Tables.{at, table}
 use Rattle.values.proofs.Placed.{at-phi, at-input, at-stmt, phi-here, stmt-here, input-here}
+use Rattle.values.proofs.Tables.{Names}
 use Rattle.sums.specs.Ground.{Ground}
 use Rattle.sums.specs.Address.{valueAt}
-use Rattle.sums.proofs.Naming.{Names, inside, names-at, known-at}
+use Rattle.sums.proofs.Naming.{inside, names-at, known-at}
 use Rattle.offsets.specs.Agreed.{agreeFrom, agreedBy}
 
 -- ---- what n agree on

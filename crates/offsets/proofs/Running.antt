@@ -18,12 +18,12 @@ use Rattle.definition.proofs.ListLaws.{bit, count-cons, only-append}
 use Rattle.records.proofs.Ranges.{range-parts, gather-append}
 use Rattle.values.specs.declared.places.Places.{Places}
 use Rattle.values.specs.Tables.{at, numbered, table}
-use Rattle.values.proofs.Tables.{table-write}
+use Rattle.values.proofs.Tables.{table-write, Names}
 use Rattle.sums.specs.Ground.{Ground}
 use Rattle.offsets.specs.Defs.{turnOf, mine, phiDefs, stmtDefs, defsBelow}
 use Rattle.offsets.specs.Ran.{Pass, passOf, learnt, zeros, Ran}
 use Rattle.offsets.proofs.Closing.{known, learn-none, learn-old, learn-new, round-append}
-use Rattle.sums.proofs.Naming.{Names, known-at, number-low}
+use Rattle.sums.proofs.Naming.{known-at, number-low}
 
 -- ---- zeros
 zeros-set : (l : List ℕ) (i x : ℕ) → i < length l → at l i ≡ 0 → (x ≡ 0 → ⊥) → zeros (set l i x) + 1 ≡ zeros l
@@ -85,7 +85,7 @@ module _ (f numbers : List ℕ) (places : Places) (g : Ground f numbers places) 
   unfolding look
   set-known k e =
       ap (λ (l : List ℕ). set tab (at l p) x) (g .values) ∙ ap (λ (l : List ℕ). set l (at (numbered f (length numbers)) p) x) e
-      ∙ table-write f (length numbers) (look k) p (defined d .reg) (defined d .ver) (names .here) (names .is) (names .small) x
+      ∙ table-write f (length numbers) (look k) p (defined d) names x
 
   new-ran : at tab (at numbers p) ≡ 0 → (x ≡ 0 → ⊥) → Ran f (length numbers) (d ∷ []) tab (set tab (at numbers p) x) true
   unfolding round

@@ -1,7 +1,7 @@
 -- The loops that visit places: a run of visits goes on where it stopped. The Use nodes of a statement stand in the list of all from its start on.
 use mathlib.Core.Path.{_≡_, refl, sym, ap, _∙_}
 use mathlib.Core.Bool.{Bool, true, false}
-use mathlib.Core.List.{List, [], _∷_, _++_, map}
+use mathlib.Core.List.{List, [], _∷_, map}
 use Prim.Native.Nat.{ℕ, zero, suc, _+_, _-_, _≤_, _<_}
 use native.Mathlib.Omega.{arith}
 use lib.ListN.{length, getD, set, replicate}
@@ -13,7 +13,7 @@ use Rattle.definition.specs.Lists.{gather, range, sumBelow}
 use Rattle.definition.specs.Contents.{size}
 use Rattle.definition.specs.Read.{marked}
 use Rattle.definition.specs.Listing.{padded}
-use Rattle.definition.proofs.Runs.{run-append, each-turn, each-end, lists-turn, lists-end, loop-start}
+use Rattle.definition.proofs.Runs.{each-turn, each-end, lists-turn, lists-end, loop-start}
 use Rattle.records.proofs.Below.{sum-turn, sum-part}
 use Rattle.records.proofs.Items.{size-small}
 use Rattle.values.specs.Keys.{placesOf}
@@ -118,9 +118,6 @@ module _ (step : List ℕ → ℕ → List ℕ) where
   visit-next : (l : List ℕ) (i : ℕ) (is : List ℕ) → visit step l (i ∷ is) ≡ visit step (step l i) is
   unfolding visit
   visit-next l i is = refl
-
-  pub visit-append : (is js l : List ℕ) → visit step l (is ++ js) ≡ visit step (visit step l is) js
-  visit-append is js l = run-append (visit step) step visit-none visit-next l is js
 
   module _ (numbers : List ℕ) (base : ℕ) where
     abbrev nodes : List ℕ → List ℕ → List ℕ

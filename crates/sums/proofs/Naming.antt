@@ -17,17 +17,11 @@ use Rattle.definition.specs.Offsets.{Known, look, stackOff, outside, refused7}
 use Rattle.values.specs.declared.places.Places.{Places}
 use Rattle.values.specs.Keys.{keyOf, exprKey, placesOf, keyed}
 use Rattle.values.specs.Tables.{at, numbered, table}
-use Rattle.values.proofs.Tables.{table-read, numbered-below}
+use Rattle.values.proofs.Tables.{table-read, numbered-below, Names}
 use Rattle.values.proofs.Placed.{at-expr, keyed-length, stmt-here, expr-here}
 use Rattle.sums.specs.Ground.{Ground}
 use Rattle.sums.specs.Address.{valueAt, addressAt, outsideAt}
 use Rattle.sums.proofs.Trees.{off-here, out-turn, out-hit}
-
--- place p names the value v, in scratch of n numbers
-pub record Names (f : List ℕ) (n p : ℕ) (v : Value) : Type 0 where
-  pub here : p < length (keyed f n)
-  pub is : at (keyed f n) p ≡ keyOf v
-  pub small : v .ver < 4294967296
 
 -- every section is the text of some edition
 pub some-edition : (t : ℕ) → (E : Edition) × (text E ≡ t)
@@ -55,7 +49,7 @@ module _ (f numbers : List ℕ) (places : Places) (g : Ground f numbers places) 
   pub known-at : (tab : List ℕ) (k : List Known) (p : ℕ) (v : Value) → Names f (length numbers) p v → tab ≡ table f (length numbers) (look k) → at tab (at numbers p) ≡ look k v
   known-at tab k p v m e =
       ap (λ (l : List ℕ). at tab (at l p)) (g .values) ∙ ap (λ (l : List ℕ). at l (at (numbered f (length numbers)) p)) e
-      ∙ table-read f (length numbers) (look k) p (v .reg) (v .ver) (m .here) (m .is) (m .small)
+      ∙ table-read f (length numbers) (look k) p v m
 
   pub number-low : (p : ℕ) (v : Value) → Names f (length numbers) p v → at numbers p < length numbers
   number-low p v m =
