@@ -7,7 +7,7 @@ use lib.ListN.{length, replicate}
 use Rattle.definition.specs.Edition.{Edition}
 use Rattle.definition.specs.Read.{read}
 use Rattle.definition.specs.Classes.{find, classes}
-use Rattle.zeros.proofs.Clearing.{own-zeros}
+use Rattle.definition.proofs.ListLaws.{own-zeros}
 use Rattle.values.specs.Keys.{keyOf, keyed}
 use Rattle.values.specs.Tables.{numberOf, numbered, table}
 use Rattle.values.specs.Chains.{Emptied}

@@ -8,18 +8,14 @@ use Rattle.definition.specs.Edition.{Edition, statements, expressions}
 use Rattle.definition.specs.Contents.{size}
 use Rattle.definition.specs.Shape.{owned}
 use Rattle.definition.specs.Meaning.{registers}
-use Rattle.definition.specs.Read.{read}
-use Rattle.definition.specs.Classes.{find, classes}
-use Rattle.definition.specs.Inline.{readsOf, inline}
-use Rattle.values.specs.Keys.{keyOf, placesOf, keyed}
-use Rattle.values.specs.Tables.{numberOf, numbered, table}
+use Rattle.values.specs.Keys.{placesOf, keyed}
+use Rattle.values.specs.Tables.{numbered, table}
 use Rattle.reads.specs.Uses.{useOrder}
 use Rattle.reads.specs.Orders.{Ordered}
 use Rattle.reads.specs.Counts.{lastReader, LiveReads, PhiReads}
 use Rattle.reads.specs.Loads.{Loads}
 use Rattle.inline.specs.Placing.{placeOf}
-use Rattle.names.specs.Codes.{nameCode}
-use Rattle.names.specs.Given.{EntryRead}
+use Rattle.names.specs.Given.{EntryRead, rootTable, nameTable}
 
 -- a sound file, zeros for its keys, and tables of their length with at least one head of a chain
 pub record Unnumbered (f ks ns heads next : List ℕ) : Type 0 where
@@ -82,7 +78,7 @@ pub record Unplaced (n : ℕ) (roots places : List ℕ) : Type 0 where
 
 -- of every value the number of its class's root, and where it is written in place
 pub record Placed (f : List ℕ) (n : ℕ) (roots places : List ℕ) : Type 0 where
-  pub rooted : (E : Edition) → roots ≡ table f n (λ v. numberOf (keyed f n) (keyOf (find (classes (read E f)) v)))
+  pub rooted : (E : Edition) → roots ≡ rootTable E f n
   pub placed : (E : Edition) → places ≡ table f n (placeOf E f)
 
 -- the tables that the names are made from
@@ -102,6 +98,6 @@ pub record Nameless (n : ℕ) (names seen entry : List ℕ) : Type 0 where
 
 -- of every value its name, and whether it is really read at entry; seen cleared again
 pub record Named (f : List ℕ) (n : ℕ) (names seen entry : List ℕ) : Type 0 where
-  pub named : (E : Edition) → names ≡ table f n (nameCode (read E f) (classes (read E f)) (inline (read E f) (readsOf (read E f))))
+  pub named : (E : Edition) → names ≡ nameTable E f n
   pub cleared : seen ≡ replicate n 0
   pub entered : EntryRead f n entry

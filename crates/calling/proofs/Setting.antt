@@ -34,21 +34,14 @@ use Rattle.values.proofs.Placed.{at-stmt, keyed-length, stmt-here}
 use Rattle.names.specs.Codes.{nameText, nameCode}
 use Rattle.reads.specs.Counts.{readBy, LiveReads, PhiReads}
 use Rattle.reads.proofs.ReadAtAll.{read-by}
-use Rattle.room.specs.Room.{Room, emit, emitAll, seen}
-use Rattle.room.proofs.Laws.{next, done, pieces-are}
+use Rattle.room.specs.Room.{Room, emitAll, seen}
+use Rattle.room.proofs.Laws.{pieces-are}
 use Rattle.render.specs.Told.{Told}
 use Rattle.lowering.specs.Lowered.{loweringOf}
 use Rattle.calling.specs.Given.{Results}
 use Rattle.calling.specs.Written.{settingOf, resultOf}
 use Rattle.lowering.proofs.Gen.{variable-coded}
 use Rattle.lowering.proofs.Commas.{none-are}
-
--- ---- the name and the sign behind it
-pub put-setting : (b y z : ℕ) (r r₁ r₀ : Room) → r₁ ≡ emit r₀ (register (nameOr (regName b y) (nameText b y z))) → r ≡ emit r₁ (punct (txt " = "))
-    → seen r ≡ seen (emitAll r₀ (settingOf b y z))
-unfolding settingOf
-put-setting b y z r r₁ r₀ a k =
-    next r r₀ (register (nameOr (regName b y) (nameText b y z))) (punct (txt " = ") ∷ []) a (next r r₁ (punct (txt " = ")) [] k (done r))
 
 -- ---- what the tables say
 pub results-of : (f : List ℕ) (t : ℕ) (P : Places) (numbers offs placed names live phi : List ℕ) → Told f t P numbers offs placed names
@@ -78,7 +71,7 @@ module _ (f numbers names live phi : List ℕ) (P : Places) (G : Results f P num
       tells g t e =
           ap (at t) (number ∙ ap (λ (Q : Places). at numbers (Q .stmts + i)) (G .ground .where-all))
           ∙ ap₂ (λ (a b : List ℕ). at a (at b (placesOf f .stmts + i))) e (G .ground .values)
-          ∙ table-read f (length numbers) g (placesOf f .stmts + i) (stmtField f i 4) (stmtField f i 5) here key (word-small f bytes _)
+          ∙ table-read f (length numbers) g (placesOf f .stmts + i) result (record { here = here; is = key; small = word-small f bytes _ })
 
       module _ (b : Bool) (test : b ≡ readBy live phi m) where
         read-is : (E : Edition) → isRead (readsOf (read E f)) result ≡ b

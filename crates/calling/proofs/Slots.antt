@@ -2,23 +2,21 @@
 use mathlib.Core.Path.{_≡_, refl, sym, ap, _∙_}
 use mathlib.Core.Bool.{Bool, true, false, cond, _&&_}
 use mathlib.Core.Option.{Option, none, some}
-use mathlib.Core.List.{List, [], _∷_, _++_}
+use mathlib.Core.List.{List, [], _∷_}
 use Prim.Native.Nat.{ℕ, zero, suc, _≤_, _<_}
 use native.Mathlib.Omega.{arith}
 use lib.Dec.{eqb, ltb}
 use borrow.Author.Tests.{ltb-true, ltb-false, lt-ltb, le-ltb, eqb-true, eq-eqb, ne-eqb}
 use Rattle.definition.specs.Codes.{tConst, tUse, tBin, tUn, tLoad}
-use Rattle.definition.specs.Edition.{Edition, statements, expressions}
-use Rattle.definition.specs.Texts.{txt}
+use Rattle.definition.specs.Edition.{Edition, expressions}
 use Rattle.definition.specs.Lists.{range}
 use Rattle.definition.specs.Contents.{size, text, textAt, itemWord, exprWord, exprLong}
 use Rattle.definition.specs.Owners.{stmtField}
-use Rattle.definition.specs.Shape.{owned}
 use Rattle.definition.specs.Ssa.{Expr, Name}
 use Rattle.definition.specs.Read.{treeAt, tree, trees, allTrees, read}
 use Rattle.definition.specs.Offsets.{offsets}
 use Rattle.definition.specs.Lookup.{globalName}
-use Rattle.definition.specs.Tokens.{tok, symbol, punct}
+use Rattle.definition.specs.Tokens.{tok, symbol}
 use Rattle.definition.specs.Render.{globalOf, globalOr}
 use Rattle.definition.specs.Lower.{direct, slotName, indirect, isIndirect}
 use Rattle.definition.proofs.Bools.{by-test, by-cond}
@@ -26,14 +24,13 @@ use Rattle.records.proofs.Trees.{tree-lower, tree-past}
 use Rattle.text.specs.Supplied.{isGlobal, globalText}
 use Rattle.text.proofs.Lookups.{global-is}
 use Rattle.room.specs.Room.{Room, emit, emitAll, seen}
-use Rattle.room.proofs.Laws.{next, more, done, pieces-are}
-use Rattle.render.specs.Gens.{rendered}
+use Rattle.room.proofs.Laws.{done, one}
 use Rattle.lowering.specs.Lowered.{loweringOf, exprOf}
 use Rattle.calls.specs.Spelled.{directText}
 use Rattle.calls.proofs.Naming.{direct-tokens}
 use Rattle.lowering.specs.Commas.{treesOf, listed}
 use Rattle.calling.specs.Written.{isSlot, slotText, computedOf, firstTokens, targetText, targetOf}
-use Rattle.lowering.proofs.Gen.{rendered-is, gen-supplied}
+use Rattle.lowering.proofs.Gen.{gen-supplied}
 use Rattle.lowering.proofs.Commas.{listed-cons}
 
 module _ (E : Edition) (f : List ℕ) where
@@ -103,7 +100,7 @@ module _ (E : Edition) (f : List ℕ) where
   first-slot t n r r₀ b s h q k =
       let named : slotName (loweringOf E f) (treeAt (allTrees E f) n) ≡ some (slotText f t n) =
       slot-is n ∙ ap (λ (p : Bool). cond p (some (slotText f (text E) n)) none) (sym s ∙ h) ∙ ap (λ (j : ℕ). some (slotText f j n)) q in
-      rw named (next r r₀ (symbol (slotText f t n)) [] k (done r))
+      rw named (one r r₀ (symbol (slotText f t n)) k)
 
   pub first-computed : (n : ℕ) (r r₀ : Room) (b : Bool) → b ≡ isSlot f n → b ≡ false → seen r ≡ seen (emitAll r₀ (computedOf E f n))
       → seen r ≡ seen (emitAll r₀ (firstTokens E f n))
@@ -112,14 +109,6 @@ module _ (E : Edition) (f : List ℕ) where
       let none-named : slotName (loweringOf E f) (treeAt (allTrees E f) n) ≡ none =
       slot-is n ∙ ap (λ (p : Bool). cond p (some (slotText f (text E) n)) none) (sym s ∙ h) in
       rw none-named k
-
-  pub put-computed : owned f ≡ true → (r r₂ r₁ r₀ : Room) (n pos : ℕ) → pos ≡ size f statements → r₁ ≡ emit r₀ (punct (txt "(*"))
-      → seen r₂ ≡ seen (emitAll r₁ (rendered E f pos true n)) → r ≡ emit r₂ (punct (txt ")")) → seen r ≡ seen (emitAll r₀ (computedOf E f n))
-  unfolding computedOf
-  put-computed own r r₂ r₁ r₀ n pos p a b c =
-      next r r₀ (punct (txt "(*")) (exprOf E f n ++ (punct (txt ")") ∷ [])) a
-      (more r r₂ r₁ (exprOf E f n) (punct (txt ")") ∷ []) (pieces-are r₂ r₁ (rendered E f pos true n) (exprOf E f n) b (rendered-is E f own pos n p))
-      (next r r₂ (punct (txt ")")) [] c (done r)))
 
   -- of n arguments
   pub indirect-none : (item n : ℕ) (r : Room) → n ≡ 0 → seen r ≡ seen (emitAll r (indirect (loweringOf E f) (treesOf E f (listed f item n))))
@@ -152,7 +141,7 @@ module _ (E : Edition) (f : List ℕ) where
 
     pub target-direct : (r r₀ : Room) → b ≡ false → r ≡ emit r₀ (symbol (directText E f (textAt E f start len))) → seen r ≡ seen (emitAll r₀ (targetOf E f i item))
     unfolding targetOf
-    target-direct r r₀ h k = rw (computed, h, direct-is) (next r r₀ (symbol (directText E f (textAt E f start len))) [] k (done r))
+    target-direct r r₀ h k = rw (computed, h, direct-is) (one r r₀ (symbol (directText E f (textAt E f start len))) k)
 
 -- ---- the code's tests, by the words that were read
 module _ (f : List ℕ) (n m : ℕ) (many : m ≡ size f expressions) where

@@ -13,7 +13,7 @@ use Rattle.definition.specs.Lists.{range}
 use Rattle.definition.specs.Owners.{stmtKind, stmtField}
 use Rattle.records.proofs.Items.{items-few, exprs-fit}
 use Rattle.records.proofs.Laws.{call-exprs}
-use Rattle.calling.specs.Given.{CallAt, ItemsAt}
+use Rattle.calling.specs.Given.{CallAt}
 use Rattle.lowering.specs.Commas.{treesOf, listed, least}
 use Rattle.lowering.proofs.Commas.{take-listed, least-le}
 use Rattle.calling.specs.Written.{skip, counted}
@@ -58,10 +58,7 @@ skip-le true (suc n) = rw (lt-ltb 0 (suc n) (omega arith)) (omega arith)
 skip-le false n = omega arith
 
 -- ---- the run stays below 32 bits
-pub items-of : (f : List ℕ) (i item from : ℕ) → CallAt f i item from → ItemsAt f i item
-items-of f i item from at = record { kind = at .kind; inside = at .inside; first = at .first; own = at .own }
-
-module _ (f : List ℕ) (bytes : (k : ℕ) → Fits w8 (getD f k 0)) (i item : ℕ) (at : ItemsAt f i item) (n : ℕ) (field : n ≡ stmtField f i 2) where
+module _ (f : List ℕ) (bytes : (k : ℕ) → Fits w8 (getD f k 0)) (i item : ℕ) (at : CallAt f i item) (n : ℕ) (field : n ≡ stmtField f i 2) where
   pub items-below : item + n < 4294967296
   items-below = omega (arith, exprs-fit f (items-few f bytes (at .own)) i refl (at .inside) (at .first), call-exprs f i (stmtKind f i) n refl (at .kind) field)
 

@@ -24,8 +24,8 @@ use Rattle.definition.specs.Lower.{Here, isIndirect, pushed, commaList, countSe
 use Rattle.definition.specs.Blocks.{lowering}
 use Rattle.inline.specs.Placing.{behind}
 use Rattle.room.specs.Room.{Room, emit, emitAll, seen}
-use Rattle.room.proofs.Laws.{next, more, done, pieces-are}
-use Rattle.lowering.specs.Lowered.{loweringOf, lowered}
+use Rattle.room.proofs.Laws.{next, more, done, one, pieces-are}
+use Rattle.lowering.specs.Lowered.{loweringOf, stmtOf, lowered}
 use Rattle.calls.specs.Waiting.{pending, pushedNodes}
 use Rattle.calls.proofs.Waits.{pushed-nodes}
 use Rattle.calling.specs.Given.{CallAt}
@@ -41,7 +41,7 @@ module _ (E : Edition) (f : List ℕ) where
   choose b true ms ns h p q = rw h p
   choose b false ms ns h p q = rw h q
 
-  waiting-are : (from i : ℕ) → gather (λ y. pushed (y .kind)) (waiting (stmtAt E f (allTrees E f) i) (pending E f from i)) ≡ treesOf E f (waitingNodes f from i)
+  waiting-are : (from i : ℕ) → gather (λ y. pushed (y .kind)) (waiting (stmtOf E f i) (pending E f from i)) ≡ treesOf E f (waitingNodes f from i)
   unfolding waiting waitingNodes stmtAt gather treesOf
   waiting-are from i = go (marked f i 4)
     where
@@ -49,14 +49,11 @@ module _ (E : Edition) (f : List ℕ) where
       go true = refl
       go false = pushed-nodes E f from i
 
-  module _ (i item from count : ℕ) (at : CallAt f i item from) (set : List ℕ) (regs : count ≡ countSet set (read E f .args)) where
-    abbrev stmt : Stmt
-    stmt = stmtAt E f (allTrees E f) i
-
+  module _ (i item from count : ℕ) (at : CallAt f i item) (set : List ℕ) (regs : count ≡ countSet set (read E f .args)) where
     abbrev args : List Expr
     args = treesOf E f (listed f item (stmtField f i 2))
 
-    args-are : callArgs (loweringOf E f) (waiting stmt (pending E f from i)) set (targetText E f i) args ≡ treesOf E f (argNodes E f i item from count)
+    args-are : callArgs (loweringOf E f) (waiting (stmtOf E f i) (pending E f from i)) set (targetText E f i) args ≡ treesOf E f (argNodes E f i item from count)
     unfolding callArgs argNodes loweringOf lowering
     args-are =
         choose (eqb (loweringOf E f .gen .bits) 32) (eqb (bits f) 32) (waitingNodes f from i)
@@ -79,7 +76,7 @@ module _ (E : Edition) (f : List ℕ) where
       pub call-lines : lowered E f H (pending E f from i) set end i ≡ cond (marked f i 1) [] (line 1 (some (stmtLong f i 0)) (callOf E f i item from count) ∷ [])
       unfolding lowered stmtAt lowerKind call callOf resultOf targetOf
       call-lines =
-          ap (lowerKind (loweringOf E f) H (pending E f from i) set stmt (behind E f end i)) kind-is
+          ap (lowerKind (loweringOf E f) H (pending E f from i) set (stmtOf E f i) (behind E f end i)) kind-is
           ∙ ap (λ (xs : List Expr). cond (marked f i 1) [] (line 1 (some (stmtLong f i 0)) (resultOf E f i ++ targetOf E f i item ++ (punct (txt "(") ∷ (commaList (loweringOf E f) xs ++ (punct (txt ");") ∷ [])))) ∷ [])) args-are
 
   -- ---- its tokens
@@ -92,7 +89,7 @@ module _ (E : Edition) (f : List ℕ) where
       let end = punct (txt ");") ∷ [] in
       more r r₂ r₀ (resultOf E f i ++ targetOf E f i item) (punct (txt "(") ∷ (args ++ end))
       (more r₂ r₁ r₀ (resultOf E f i) (targetOf E f i item) a b)
-      (next r r₂ (punct (txt "(")) (args ++ end) c (more r r₄ r₃ args end d (next r r₄ (punct (txt ");")) [] k (done r))))
+      (next r r₂ (punct (txt "(")) (args ++ end) c (more r r₄ r₃ args end d (one r r₄ (punct (txt ");")) k)))
 
   -- ---- the arguments, by the bits
   module _ (i item from count w : ℕ) (wide : w ≡ bits f) (r r₀ : Room) where

@@ -2,7 +2,7 @@
 use mathlib.Core.Path.{_≡_}
 use mathlib.Core.Bool.{true}
 use mathlib.Core.List.{List}
-use Prim.Native.Nat.{ℕ, _≤_, _<_}
+use Prim.Native.Nat.{ℕ, _<_}
 use lib.ListN.{length}
 use Rattle.definition.specs.Codes.{kCall}
 use Rattle.definition.specs.Edition.{Edition, statements}
@@ -18,16 +18,8 @@ use Rattle.sums.specs.Ground.{Ground}
 use Rattle.reads.specs.Counts.{LiveReads, PhiReads}
 use Rattle.names.specs.Codes.{nameCode}
 
--- statement i is a call whose list items begin at `item`; the pushes for it are from statement `from` on
-pub record CallAt (f : List ℕ) (i item from : ℕ) : Type 0 where
-  pub kind : stmtKind f i ≡ kCall
-  pub inside : i < size f statements
-  pub first : item ≡ firstItem f i
-  pub behind : from ≤ i
-  pub own : owned f ≡ true
-
--- and its list items alone
-pub record ItemsAt (f : List ℕ) (i item : ℕ) : Type 0 where
+-- statement i is a call whose list items begin at `item`
+pub record CallAt (f : List ℕ) (i item : ℕ) : Type 0 where
   pub kind : stmtKind f i ≡ kCall
   pub inside : i < size f statements
   pub first : item ≡ firstItem f i

@@ -16,7 +16,7 @@ ghost use Rattle.definition.specs.Lower.{commaList, isIndirect};
 ghost use Rattle.room.specs.Room.{roomOf, emitAll, seen};
 ghost use Rattle.render.specs.Told.{Told};
 ghost use Rattle.lowering.specs.Lowered.{loweringOf};
-ghost use Rattle.calling.specs.Given.{CallAt, ItemsAt};
+ghost use Rattle.calling.specs.Given.{CallAt};
 ghost use Rattle.lowering.specs.Commas.{treesOf};
 ghost use Rattle.calling.specs.Written.{targetText, skip, counted, waitingNodes, argNodes};
 
@@ -50,7 +50,7 @@ fn put_counted(
     count: u32,
 ) -> Out
     requires { ⌜ Told (now f) t places (now numbers) (now offs) (now placed) (now names) ⌝ }
-    requires { ⌜ ItemsAt (now f) i item ⌝ }
+    requires { ⌜ CallAt (now f) i item ⌝ }
     ensures { λ r. ⌜ ((E : Edition) → textOf E ≡ t → seen (roomOf (now (tokens .exit)) (now (text .exit)) r)
         ≡ seen (emitAll (roomOf (now (tokens .entry)) (now (text .entry)) out) (commaList (loweringOf E (now (f .entry)))
         (treesOf E (now (f .entry)) (counted (now (f .entry)) (isIndirect (targetText E (now (f .entry)) i)) item (stmtField (now (f .entry)) i 2) count))))) ⌝ }
@@ -132,7 +132,7 @@ pub fn put_args(
     count: u32,
 ) -> Out
     requires { ⌜ Told (now f) t places (now numbers) (now offs) (now placed) (now names) ⌝ }
-    requires { ⌜ CallAt (now f) i item from ⌝ }
+    requires { ⌜ CallAt (now f) i item ⌝ }
     ensures { λ r. ⌜ ((E : Edition) → textOf E ≡ t → seen (roomOf (now (tokens .exit)) (now (text .exit)) r)
         ≡ seen (emitAll (roomOf (now (tokens .entry)) (now (text .entry)) out) (commaList (loweringOf E (now (f .entry))) (treesOf E (now (f .entry)) (argNodes E (now (f .entry)) i item from count))))) ⌝ }
 {

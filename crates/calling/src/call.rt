@@ -46,7 +46,7 @@ fn put_call(
     requires { ⌜ Told (now f) t places (now numbers) (now offs) (now placed) (now names) ⌝ }
     requires { ⌜ LiveReads (now f) (length (now numbers)) (now live) ⌝ }
     requires { ⌜ PhiReads (now f) (length (now numbers)) (now phi) ⌝ }
-    requires { ⌜ CallAt (now f) i item from ⌝ }
+    requires { ⌜ CallAt (now f) i item ⌝ }
     ensures { λ r. ⌜ ((E : Edition) → textOf E ≡ t → seen (roomOf (now (tokens .exit)) (now (text .exit)) r)
         ≡ seen (emitAll (roomOf (now (tokens .entry)) (now (text .entry)) out) (callOf E (now (f .entry)) i item from count))) ⌝ }
 {
@@ -108,7 +108,7 @@ pub fn call(
     requires { ⌜ Told (now f) t places (now numbers) (now offs) (now placed) (now names) ⌝ }
     requires { ⌜ LiveReads (now f) (length (now numbers)) (now live) ⌝ }
     requires { ⌜ PhiReads (now f) (length (now numbers)) (now phi) ⌝ }
-    requires { ⌜ CallAt (now f) i item from ⌝ }
+    requires { ⌜ CallAt (now f) i item ⌝ }
     ensures { λ r. ⌜ ((E : Edition) (H : Here) (set : List ℕ) (end : ℕ) → textOf E ≡ t → count ≡ countSet set (read E (now (f .entry)) .args)
         → seenSheet (sheetOf (now (lines .exit)) (now (tokens .exit)) (now (text .exit)) r)
         ≡ seenSheet (writeAll (sheetOf (now (lines .entry)) (now (tokens .entry)) (now (text .entry)) out) (lowered E (now (f .entry)) H (pending E (now (f .entry)) from i) set end i))) ⌝ }

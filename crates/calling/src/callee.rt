@@ -2,10 +2,10 @@
 use calls::direct::is_indirect;
 use calls::direct::put_direct;
 use lowering::kinds::PUNCT;
+use lowering::list::put_expr;
 use pieces::from_file::put_global;
 use pieces::put::put;
 use records::contents::EXPRESSIONS;
-use records::contents::STATEMENTS;
 use records::contents::expr_long;
 use records::contents::expr_word;
 use records::contents::item_word;
@@ -13,7 +13,6 @@ use records::contents::size_of;
 use records::owners::CONST;
 use records::owners::LOAD;
 use records::owners::stmt_field;
-use render::expr::expr;
 use room::out::Out;
 use text::names::is_global;
 use values::places::Places;
@@ -76,9 +75,8 @@ fn put_computed(
     ensures { λ r. ⌜ ((E : Edition) → textOf E ≡ t → seen (roomOf (now (tokens .exit)) (now (text .exit)) r)
         ≡ seen (emitAll (roomOf (now (tokens .entry)) (now (text .entry)) out) (computedOf E (now (f .entry)) n))) ⌝ }
 {
-    let pos = size_of(f, STATEMENTS);
     let out = put(tokens, text, out, PUNCT, b"(*");
-    let out = expr(
+    let out = put_expr(
         tokens,
         text,
         out,
@@ -89,9 +87,7 @@ fn put_computed(
         offs,
         placed,
         names,
-        pos,
         n,
-        true,
     );
     put(tokens, text, out, PUNCT, b")")
 }

@@ -13,21 +13,20 @@ use Rattle.definition.specs.Texts.{isEmpty}
 use Rattle.definition.specs.Offsets.{whole}
 use Rattle.definition.specs.Numbers.{hexValue, push, readDigits, readSome, readHex}
 use Rattle.definition.proofs.Bools.{both-true, cond-some, none-some}
+use Rattle.text.proofs.Lookups.{answers}
 use Rattle.calls.specs.declared.hex.Hex.{Hex}
 use Rattle.calls.specs.declared.hex.Hex.the-variants.{Value, None}
 use Rattle.calls.specs.Spelled.{hexed}
 use Rattle.calls.proofs.Trims.{size-most, part-cut, part-first}
 
 -- ---- the answers
-pub hexed-none : (o : Option ℕ) → hexed o ≡ None → o ≡ none
-unfolding hexed
-hexed-none none h = refl
-hexed-none (some v) h = let z : _≡_ {A = ℕ} 0 1 = cc in absurd (omega arith)
+abbrev valued : Hex → Option ℕ
+valued None = none
+valued (Value v) = some v
 
-pub hexed-some : (o : Option ℕ) (v : ℕ) → hexed o ≡ Value v → o ≡ some v
+pub hexed-is : (o : Option ℕ) (h : Hex) → hexed o ≡ h → o ≡ valued h
 unfolding hexed
-hexed-some none v h = let z : _≡_ {A = ℕ} 0 1 = cc in absurd (omega arith)
-hexed-some (some w) v h = let e : w ≡ v = cc in ap some e
+hexed-is = answers hexed valued refl (λ v. refl)
 
 -- ---- one digit
 pub within-not : (b l h : ℕ) → b < l → false ≡ (leb l b && leb b h)
@@ -70,19 +69,19 @@ value-small b d e =
 module _ (v b : ℕ) (r : Hex) (is : r ≡ hexed (hexValue b)) where
   pub push-no : r ≡ None → None ≡ hexed (push (some v) (hexValue b))
   unfolding push hexed
-  push-no h = rw (hexed-none (hexValue b) (sym is ∙ h))
+  push-no h = rw (hexed-is (hexValue b) None (sym is ∙ h))
 
   module _ (d : ℕ) (so : r ≡ Value d) where
     pub push-small : d < 16
-    push-small = value-small b d (hexed-some (hexValue b) d (sym is ∙ so))
+    push-small = value-small b d (hexed-is (hexValue b) (Value d) (sym is ∙ so))
 
     pub push-over : 1152921504606846976 ≤ v → None ≡ hexed (push (some v) (hexValue b))
     unfolding push hexed
-    push-over h = rw (hexed-some (hexValue b) d (sym is ∙ so), le-ltb (16 * v + d) whole (omega arith))
+    push-over h = rw (hexed-is (hexValue b) (Value d) (sym is ∙ so), le-ltb (16 * v + d) whole (omega arith))
 
     pub push-fits : v < 1152921504606846976 → Value (16 * v + d) ≡ hexed (push (some v) (hexValue b))
     unfolding push hexed
-    push-fits h = rw (hexed-some (hexValue b) d (sym is ∙ so), lt-ltb (16 * v + d) whole (omega (arith, push-small)))
+    push-fits h = rw (hexed-is (hexValue b) (Value d) (sym is ∙ so), lt-ltb (16 * v + d) whole (omega (arith, push-small)))
 
 -- ---- the loop: v is read of i digits
 digits-none : (s : List ℕ) → readDigits none s ≡ none
@@ -108,11 +107,11 @@ module _ (f : List ℕ) (at n i v : ℕ) (o : Option ℕ) (so : o ≡ readDigits
     unfolding hexed
     digits-stop h =
         let s = part f (at + (i + 1)) (n - (i + 1)) in
-        let e : push (some v) (hexValue (getD f (at + i) 0)) ≡ none = hexed-none _ (sym is ∙ h) in
+        let e : push (some v) (hexValue (getD f (at + i) 0)) ≡ none = hexed-is _ None (sym is ∙ h) in
         sym (ap hexed (digits-turn below room ∙ ap (λ (x : Option ℕ). readDigits x s) e ∙ digits-none s))
 
     pub digits-more : (w : ℕ) → r ≡ Value w → o ≡ readDigits (some w) (part f (at + (i + 1)) (n - (i + 1)))
-    digits-more w h = digits-turn below room ∙ rw (hexed-some _ w (sym is ∙ h))
+    digits-more w h = digits-turn below room ∙ rw (hexed-is _ (Value w) (sym is ∙ h))
 
   pub digits-end : n ≤ i → Value v ≡ hexed o
   unfolding readDigits part hexed

@@ -4,7 +4,6 @@ use mathlib.Core.Bool.{Bool, true, false, not}
 use mathlib.Core.Option.{Option, none, some}
 use mathlib.Core.List.{List, [], _∷_}
 use Prim.Native.Nat.{ℕ, _+_, _-_}
-use native.Mathlib.Omega.{arith}
 use lib.Dec.{eqb}
 use Rattle.definition.specs.Edition.{Edition}
 use Rattle.definition.specs.Words.{part}
@@ -23,7 +22,7 @@ use Rattle.definition.specs.Blocks.{lowering}
 use Rattle.text.specs.declared.names.Found.{Found}
 use Rattle.text.specs.declared.names.Found.the-variants.{At, Nothing}
 use Rattle.text.specs.Supplied.{found, nameIndex, nameText, textOf}
-use Rattle.text.proofs.Lookups.{name-is, name-part, text-is}
+use Rattle.text.proofs.Lookups.{name-is, name-part, text-is, found-is}
 use Rattle.marks.specs.Labels.{blockOf}
 use Rattle.marks.proofs.Finding.{block-none}
 use Rattle.room.specs.Room.{Room, emit}
@@ -31,7 +30,7 @@ use Rattle.room.proofs.Laws.{piece-as}
 use Rattle.calls.specs.declared.hex.Hex.{Hex}
 use Rattle.calls.specs.declared.hex.Hex.the-variants.{Value, None}
 use Rattle.calls.specs.Spelled.{outsideText, Trimmed, hexed, nameAtHex, indexAtHex, directIndex, directText}
-use Rattle.calls.proofs.Digits.{hexed-none, hexed-some}
+use Rattle.calls.proofs.Digits.{hexed-is}
 
 -- ---- blocks
 pub block-is : (f : List ℕ) (a r : ℕ) → r ≡ blockOf f a → (E : Edition) → not (eqb r 0) ≡ among a (order (read E f))
@@ -41,32 +40,20 @@ block-is f a r e E = rw e (ap not (block-none E f a) ∙ twice (among a (order (
     twice true = refl
     twice false = refl
 
--- ---- what the lookup answered
-module _ (f : List ℕ) (t : ℕ) where
-  text-nothing : (o : Option ℕ) → found o ≡ Nothing → textOf f t o ≡ none
-  unfolding found textOf
-  text-nothing none h = refl
-  text-nothing (some i) h = let z : _≡_ {A = ℕ} 0 1 = cc in absurd (omega arith)
-
-  text-found : (o : Option ℕ) (i : ℕ) → found o ≡ At i → textOf f t o ≡ some (nameText f t i)
-  unfolding found textOf
-  text-found none i h = let z : _≡_ {A = ℕ} 0 1 = cc in absurd (omega arith)
-  text-found (some j) i h = let e : j ≡ i = cc in ap (λ (k : ℕ). some (nameText f t k)) e
-
 -- ---- outside
 module _ (f : List ℕ) (t a : ℕ) (r : Found) (look : r ≡ found (nameIndex f a)) where
   pub outside-unnamed : r ≡ Nothing → outward a ≡ outsideText f t a
-  unfolding outsideText outsideName
-  outside-unnamed e = rw (text-nothing f t (nameIndex f a) (sym look ∙ e))
+  unfolding outsideText outsideName textOf
+  outside-unnamed e = rw (found-is (nameIndex f a) Nothing (sym look ∙ e))
 
   module _ (i : ℕ) (at : r ≡ At i) (b : Bool) (is : b ≡ begins (txt "loc_") (nameText f t i)) where
     pub outside-label : b ≡ true → outward a ≡ outsideText f t a
-    unfolding outsideText outsideName
-    outside-label h = rw (text-found f t (nameIndex f a) i (sym look ∙ at), sym is ∙ h)
+    unfolding outsideText outsideName textOf
+    outside-label h = rw (found-is (nameIndex f a) (At i) (sym look ∙ at), sym is ∙ h)
 
     pub outside-named : b ≡ false → nameText f t i ≡ outsideText f t a
-    unfolding outsideText outsideName
-    outside-named h = rw (text-found f t (nameIndex f a) i (sym look ∙ at), sym is ∙ h)
+    unfolding outsideText outsideName textOf
+    outside-named h = rw (found-is (nameIndex f a) (At i) (sym look ∙ at), sym is ∙ h)
 
 -- a raw address begins with `*`, a label does not
 pub outward-raw : (a : ℕ) (s : List ℕ) → outward a ≡ s → true ≡ begins (txt "*") s
@@ -110,11 +97,11 @@ module _ (f : List ℕ) (at n k : ℕ) (off : Trimmed f at n k) (h : Hex) (is : 
 
   pub index-none : h ≡ None → Nothing ≡ found (directIndex f (part f at n))
   unfolding directIndex indexAtHex found
-  index-none e = rw (hexed-none _ (sym spelled ∙ e))
+  index-none e = rw (hexed-is _ None (sym spelled ∙ e))
 
   pub index-found : (a : ℕ) (r : Found) → h ≡ Value a → r ≡ found (nameIndex f a) → r ≡ found (directIndex f (part f at n))
   unfolding directIndex indexAtHex
-  index-found a r e q = q ∙ rw (hexed-some _ a (sym spelled ∙ e))
+  index-found a r e q = q ∙ rw (hexed-is _ (Value a) (sym spelled ∙ e))
 
 index-is : (E : Edition) (f : List ℕ) (o : Option ℕ) → nameAtHex (read E f .names) o ≡ textOf f (text E) (indexAtHex f o)
 unfolding nameAtHex indexAtHex textOf read
@@ -138,17 +125,17 @@ module _ (E : Edition) (f : List ℕ) (t start n o : ℕ) (section : text E ≡ 
     found-there = is ∙ ap (λ (s : List ℕ). found (directIndex f s)) spelling
 
     pub direct-plain : r ≡ Nothing → y ≡ emit x (tok 4 (part f (o + start) n)) → y ≡ emit x (symbol (directText E f (textAt E f start n)))
-    unfolding nameOr
+    unfolding nameOr textOf
     direct-plain h e =
         let s = textAt E f start n in
-        let d : s ≡ directText E f s = sym (direct-is E f s ∙ ap (nameOr s) (text-nothing f (text E) (directIndex f s) (sym found-there ∙ h))) in
+        let d : s ≡ directText E f s = sym (direct-is E f s ∙ ap (λ (k : Option ℕ). nameOr s (textOf f (text E) k)) (found-is (directIndex f s) Nothing (sym found-there ∙ h))) in
         piece-as x y 4 _ _ e (spelling ∙ d)
 
     pub direct-named : (i : ℕ) → r ≡ At i → y ≡ emit x (tok 4 (nameText f t i)) → y ≡ emit x (symbol (directText E f (textAt E f start n)))
-    unfolding nameOr
+    unfolding nameOr textOf
     direct-named i h e =
         let s = textAt E f start n in
-        let d : nameText f (text E) i ≡ directText E f s = sym (direct-is E f s ∙ ap (nameOr s) (text-found f (text E) (directIndex f s) i (sym found-there ∙ h))) in
+        let d : nameText f (text E) i ≡ directText E f s = sym (direct-is E f s ∙ ap (λ (k : Option ℕ). nameOr s (textOf f (text E) k)) (found-is (directIndex f s) (At i) (sym found-there ∙ h))) in
         piece-as x y 4 _ _ e (ap (λ (z : ℕ). nameText f z i) (sym section) ∙ d)
 
 -- so it is the definition's token: what is opened in place changes no name

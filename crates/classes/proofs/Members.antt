@@ -5,21 +5,14 @@ use mathlib.Core.List.{List, [], _∷_, _++_, map}
 use Rattle.definition.specs.Lists.{any, gather}
 use Rattle.definition.specs.Values.{Value, eqv, before, lesser, greater}
 use Rattle.definition.specs.Classes.{Member, Pair, find, relabel, union, unions, alone}
-use Rattle.definition.proofs.Bools.{by-test, by-cond, both-false, or-right, is-false}
+use Rattle.definition.proofs.Bools.{by-test, by-cond, or-right, is-false}
 use Rattle.definition.proofs.ListLaws.{Each, end, _▸_, each-to, each-map}
+use Rattle.definition.proofs.Runs.{run-append}
 use Rattle.definition.proofs.Equal.{eqv-true, eqv-refl}
 
 -- is the value a member
 unfoldable pub has : List Member → Value → Bool
 has t v = any (λ x. eqv (x .of) v) t
-
--- what is no member is its own root
-pub find-none : (t : List Member) (v : Value) → has t v ≡ false → find t v ≡ v
-unfolding has any find
-find-none [] v e = refl
-find-none (x ∷ t) v e =
-    let b = both-false (eqv (x .of) v) (any (λ x. eqv (x .of) v) t) e in
-    rw (b .0) (find-none t v (b .1))
 
 -- what holds of every root holds of a member's
 pub find-root : (Q : Value → Type 0) (t : List Member) (v : Value) → Each (λ x. Q (x .root)) t → has t v ≡ true → Q (find t v)
@@ -88,6 +81,11 @@ find-alone (p ∷ ps) v =
     by-test (eqv (p .left) v) (λ e. rw e (eqv-true (p .left) v e))
     (λ n. rw n (by-test (eqv (p .right) v) (λ e. rw e (eqv-true (p .right) v e)) (λ k. rw k r)))
 
+-- what holds of both of two values holds of the lesser and of the greater
+pub of-both : (Q : Value → Type 0) (a b : Value) → Q a → Q b → Q (lesser a b) × Q (greater a b)
+unfolding lesser greater
+of-both Q a b p q = (by-cond Q (before b a) (λ h. q) (λ h. p), by-cond Q (before b a) (λ h. p) (λ h. q))
+
 -- the next pair joined
 module _ (t : List Member) (p : Pair) where
   -- the roots of its two values
@@ -104,20 +102,15 @@ module _ (t : List Member) (p : Pair) where
     right-in : has t rootRight ≡ true
     right-in = find-root (λ v. has t v ≡ true) t (p .right) ready (here .1)
 
-    lesser-in : has t (lesser rootLeft rootRight) ≡ true
-    unfolding lesser
-    lesser-in = by-cond (λ v. has t v ≡ true) (before rootRight rootLeft) (λ e. right-in) (λ e. left-in)
-
-    greater-in : has t (greater rootLeft rootRight) ≡ true
-    unfolding greater
-    greater-in = by-cond (λ v. has t v ≡ true) (before rootRight rootLeft) (λ e. left-in) (λ e. right-in)
+    both-in : (has t (lesser rootLeft rootRight) ≡ true) × (has t (greater rootLeft rootRight) ≡ true)
+    both-in = of-both (λ v. has t v ≡ true) rootLeft rootRight left-in right-in
 
     pub find-union : (v : Value) → find (union t p) v ≡ cond (eqv (find t v) (greater rootLeft rootRight)) (lesser rootLeft rootRight) (find t v)
     unfolding union
     find-union v =
         find-relabel (greater rootLeft rootRight) (lesser rootLeft rootRight) t v
         (λ e. is-false (eqv v (greater rootLeft rootRight))
-        (λ y. true≢false (sym greater-in ∙ sym (ap (has t) (eqv-true v (greater rootLeft rootRight) y)) ∙ e)))
+        (λ y. true≢false (sym (both-in .1) ∙ sym (ap (has t) (eqv-true v (greater rootLeft rootRight) y)) ∙ e)))
 
     union-rooted : Each (λ x. has (union t p) (x .root) ≡ true) (union t p)
     unfolding union relabel
@@ -126,7 +119,7 @@ module _ (t : List Member) (p : Pair) where
         let to = lesser rootLeft rootRight in
         each-map (relabel from to)
         (λ x h. has-relabel from to t (cond (eqv (x .root) from) to (x .root))
-        ∙ by-cond (λ v. has t v ≡ true) (eqv (x .root) from) (λ e. lesser-in) (λ e. h)) ready
+        ∙ by-cond (λ v. has t v ≡ true) (eqv (x .root) from) (λ e. both-in .0) (λ e. h)) ready
 
   pub union-has : (v : Value) → has (union t p) v ≡ has t v
   unfolding union
@@ -143,5 +136,4 @@ module _ (t : List Member) (p : Pair) where
 
 pub unions-append : (t : List Member) (ps qs : List Pair) → unions t (ps ++ qs) ≡ unions (unions t ps) qs
 unfolding unions
-unions-append t [] qs = refl
-unions-append t (p ∷ ps) qs = unions-append (union t p) ps qs
+unions-append = run-append unions union (λ t. refl) (λ t p ps. refl)

@@ -16,7 +16,7 @@ use Rattle.definition.specs.Classes.{Member, Pair, find, pairs, union, unions, 
 use Rattle.definition.proofs.Bools.{by-test, by-cond, both-true, both-false, or-cases}
 use Rattle.definition.proofs.ListLaws.{Each, end, _▸_, each-append, each-head}
 use Rattle.definition.proofs.Equal.{eqv-true, eqv-refl}
-use Rattle.classes.proofs.Members.{has, Here, Ready, rootLeft, rootRight, find-union, find-alone, alone-ready, union-ready}
+use Rattle.classes.proofs.Members.{has, Here, Ready, rootLeft, rootRight, find-union, find-alone, alone-ready, of-both, union-ready}
 
 -- ---- the order of values
 -- w is v, or before it
@@ -65,15 +65,6 @@ not-both v w e =
 greater-lesser : (a b : Value) → before (greater a b) (lesser a b) ≡ false
 unfolding greater lesser
 greater-lesser a b = by-test (before b a) (λ h. rw h (not-both b a h)) (λ h. rw h h)
-
--- what holds of both of two values holds of the lesser
-of-lesser : (Q : Value → Type 0) (a b : Value) → Q a → Q b → Q (lesser a b)
-unfolding lesser
-of-lesser Q a b p q = by-cond Q (before b a) (λ h. q) (λ h. p)
-
-of-greater : (Q : Value → Type 0) (a b : Value) → Q a → Q b → Q (greater a b)
-unfolding greater
-of-greater Q a b p q = by-cond Q (before b a) (λ h. p) (λ h. q)
 
 -- ---- one induction
 -- of the two roots of a pair the one that gives way, and the one that stays
@@ -185,9 +176,8 @@ module _ (F : Function) where
       (classes-by Kin Joins
       (λ t p i h v k.
       let same : rootRight t p .reg ≡ rootLeft t p .reg = h (p .right) .0 ∙ sym (i .0) ∙ sym (h (p .left) .0) in
-      let high : top t p .reg ≡ rootLeft t p .reg = of-greater (λ w. w .reg ≡ rootLeft t p .reg) (rootLeft t p) (rootRight t p) refl same in
-      let down : low t p .reg ≡ rootLeft t p .reg = of-lesser (λ w. w .reg ≡ rootLeft t p .reg) (rootLeft t p) (rootRight t p) refl same in
-      (down ∙ sym high ∙ k .0, (λ e. absurd (i .1 (sym (h (p .left) .0) ∙ sym high ∙ k .0 ∙ e)))))
+      let both = of-both (λ w. w .reg ≡ rootLeft t p .reg) (rootLeft t p) (rootRight t p) refl same in
+      (both .0 ∙ sym (both .1) ∙ k .0, (λ e. absurd (i .1 (sym (h (p .left) .0) ∙ sym (both .1) ∙ k .0 ∙ e)))))
       (λ v. (refl, (λ e. refl))) (pairsOf F) joining)
 
   pub root-register : (v : Value) → find (classes F) v .reg ≡ v .reg
@@ -207,9 +197,8 @@ module _ (F : Function) where
         let a = rootLeft t p in
         let b = rootRight t p in
         let ab : R a b = through a (p .left) b (turned (p .left) a (h (p .left))) (through (p .left) (p .right) b i (h (p .right))) in
-        let from : R a (top t p) = of-greater (R a) a b (self a) ab in
-        let to : R a (low t p) = of-lesser (R a) a b (self a) ab in
-        through v (top t p) (low t p) k (through (top t p) a (low t p) (turned a (top t p) from) to))
+        let both = of-both (R a) a b (self a) ab in
+        through v (top t p) (low t p) k (through (top t p) a (low t p) (turned a (top t p) (both .1)) (both .0)))
         self (pairsOf F) joined)
 
   -- every phi has the root of its inputs

@@ -14,7 +14,8 @@ use Rattle.definition.specs.Contents.{size, phiWord}
 use Rattle.definition.specs.Owners.{phiInputs, firstInput}
 use Rattle.definition.specs.Values.{RSP}
 use Rattle.records.proofs.Editions.{length-range}
-use Rattle.records.proofs.Below.{sum-start, sum-turn, sum-le}
+use Rattle.definition.proofs.Runs.{loop-start}
+use Rattle.records.proofs.Below.{sum-start, sum-turn, sum-part}
 use Rattle.records.proofs.Parts.{owned-parts}
 use Rattle.ssa.specs.Block.{phiRecord}
 use Rattle.ssa.specs.declared.block.Phi.{Phi}
@@ -116,7 +117,7 @@ module _ (f ks ns t : List ℕ) (i : ℕ) (phi : Phi) (w : Bool) (is : phi ≡ p
 -- ---- all phis
 module _ (f ks ns : List ℕ) (n m : ℕ) (count : n ≡ m) where
   pub phis-start : (t : List ℕ) → joinPhis f ks ns t 0 m ≡ joinPhis f ks ns t 0 (n - 0)
-  phis-start t = let q : m ≡ n - 0 = omega arith in ap (joinPhis f ks ns t 0) q
+  phis-start t = loop-start (joinPhis f ks ns t 0) n m count
 
   pub phis-turn : (t u : List ℕ) (i : ℕ) → i < n → u ≡ joinPhi f ks ns t i → joinPhis f ks ns t i (n - i) ≡ joinPhis f ks ns u (i + 1) (n - (i + 1))
   unfolding joinPhis
@@ -153,7 +154,7 @@ module _ (f ks ns : List ℕ) (n : ℕ) (given : Given f ks ns n) where
     pub inputs-fit : (m : ℕ) → m ≡ phiInputs f i → k + m ≤ n
     unfolding placesOf firstInput
     inputs-fit m e =
-        omega (arith, stand .inputs, sum-turn (phiInputs f) {i = i} refl e, sum-le (phiInputs f) (i + 1) (size f phis) (omega arith), owned-parts f (given .whole) .all-inputs, given .room)
+        omega (arith, stand .inputs, sum-part (phiInputs f) {i = i} (size f phis) (omega arith) refl e, owned-parts f (given .whole) .all-inputs, given .room)
 
     pub run-asks : (m : ℕ) → m ≡ phiInputs f i → (length ks ≡ n) × (k + m ≤ length ns)
     run-asks m e = (keys-long, omega (arith, inputs-fit m e, numbers-long))

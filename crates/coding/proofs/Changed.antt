@@ -2,7 +2,7 @@
 use mathlib.Core.Path.{_≡_, refl, sym, ap, ap₂, subst, _∙_}
 use mathlib.Core.Bool.{Bool, true, false, cond}
 use mathlib.Core.List.{List}
-use Prim.Native.Nat.{ℕ, suc, _+_, _/_, _%_, _<_}
+use Prim.Native.Nat.{ℕ, suc, _+_, _/_, _%_, _≤_, _<_}
 use native.Mathlib.Omega.{arith}
 use borrow.Author.Tests.{lt-ltb, leb-false}
 use lib.Dec.{eqb, leb}
@@ -111,42 +111,27 @@ module _ (ls : List Line) where
   same-codes whileClose w v k n o c = k ∙ c
 
   module _ (l w : ℕ) (c : CodedRow ls l w) where
+    made-coded : (v : ℕ) (s : Sort) → nameOf v ≤ nameOf w → sort (lineOf ls v) ≡ s → Codes ls s v → CodedRow ls l v
+    made-coded v s h e q = record { codes = subst (λ (s : Sort). Codes ls s v) (sym e) q; small = omega (arith, c .small) }
+
     pub raised-coded : indentOf w < 4095 → CodedRow ls l (raised w)
     raised-coded h =
         let p = raised-parts w h in
-        record {
-          codes = subst (λ (x : Line). Codes ls (sort x) (raised w)) (sym (raised-line w h)) (same-codes (sort (lineOf ls w)) w (raised w) (p .kind) (p .name) (p .origin) (c .codes));
-          small = omega (arith, p .name, c .small);
-        }
+        made-coded (raised w) (sort (lineOf ls w)) (omega (arith, p .name)) (ap sort (raised-line w h))
+        (same-codes (sort (lineOf ls w)) w (raised w) (p .kind) (p .name) (p .origin) (c .codes))
 
     pub close-coded : CodedRow ls l (closeRow w)
-    close-coded =
-        let k = close-kind w in
-        record {
-          codes = subst (λ (s : Sort). Codes ls s (closeRow w)) (sym (ap sort (close-line w) ∙ close-sort)) (k .0);
-          small = omega (arith, k .2, c .small);
-        }
+    close-coded = let k = close-kind w in made-coded (closeRow w) close (omega (arith, k .2)) (ap sort (close-line w) ∙ close-sort) (k .0)
 
     module _ (e : kindOf w ≡ 2) where
       pub opened-coded : sortOf (openTokens (lineOf ls w .toks)) ≡ ifOpen → CodedRow ls l (opened w)
-      opened-coded q = record {
-        codes = subst (λ (s : Sort). Codes ls s (opened w)) (sym (ap sort (opened-line w e) ∙ q)) (opened-parts w e .kind);
-        small = omega (arith, opened-parts w e .name, c .small);
-      }
+      opened-coded q = let p = opened-parts w e in made-coded (opened w) ifOpen (omega (arith, p .name)) (ap sort (opened-line w e) ∙ q) (p .kind)
 
       pub whiled-coded : sortOf (whileTokens (lineOf ls w .toks)) ≡ whileClose → CodedRow ls l (whiled w)
-      whiled-coded q = record {
-        codes = subst (λ (s : Sort). Codes ls s (whiled w)) (sym (ap sort (whiled-line w e) ∙ q)) (whiled-parts w e .kind);
-        small = omega (arith, whiled-parts w e .name, c .small);
-      }
+      whiled-coded q = let p = whiled-parts w e in made-coded (whiled w) whileClose (omega (arith, p .name)) (ap sort (whiled-line w e) ∙ q) (p .kind)
 
     pub headed-coded : kindOf w ≡ 1 → indentOf w < 4095 → CodedRow ls l (headed w)
-    headed-coded e h =
-        let p = headed-parts w e h in
-        record {
-          codes = subst (λ (s : Sort). Codes ls s (headed w)) (sym (ap sort (headed-line w e h) ∙ do-sort)) (p .kind);
-          small = omega (arith, p .name, c .small);
-        }
+    headed-coded e h = let p = headed-parts w e h in made-coded (headed w) doOpen (omega (arith, p .name)) (ap sort (headed-line w e h) ∙ do-sort) (p .kind)
 
 -- a row that may be raised has room for it
 pub not-deep : (w : ℕ) → tooDeep w ≡ false → indentOf w < 4095

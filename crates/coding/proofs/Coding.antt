@@ -1,6 +1,6 @@
 -- Rows that code lines: a row's kind tells the sort of the line that it stands for, and names are equal where the texts are.
 -- So every test of the passes on a line is the test on its row.
-use mathlib.Core.Path.{_≡_, refl, sym, ap, ap₂, _∙_}
+use mathlib.Core.Path.{_≡_, refl, sym, ap, ap₂, subst, _∙_}
 use mathlib.Core.Bool.{Bool, true, false, not, cond, _&&_, _||_, false≢true}
 use mathlib.Core.List.{List}
 use Prim.Native.Nat.{ℕ, suc, _≤_, _<_}
@@ -51,19 +51,6 @@ same-swap s t =
     by-test (same s t) (λ e. e ∙ sym (ap (λ (z : List ℕ). same t z) (same-eq s t e) ∙ same-refl t))
     (λ e. e ∙ sym (is-false (same t s) (λ h. false≢true (sym e ∙ ap (λ (z : List ℕ). same s z) (same-eq t s h) ∙ same-refl s))))
 
--- the kind decides
-kind-label : (w k : ℕ) → kindOf w ≡ k → isLabel w ≡ eqb k 1
-unfolding isLabel
-kind-label w k e = ap (λ (q : ℕ). eqb q 1) e
-
-kind-cond : (w k : ℕ) → kindOf w ≡ k → isCond w ≡ eqb k 2
-unfolding isCond
-kind-cond w k e = ap (λ (q : ℕ). eqb q 2) e
-
-kind-goto : (w k : ℕ) → kindOf w ≡ k → isGoto w ≡ (eqb k 2 || eqb k 3)
-unfolding isGoto
-kind-goto w k e = ap (λ (q : ℕ). eqb q 2 || eqb q 3) e
-
 module _ (ls : List Line) (w : ℕ) where
   pub indent-is : lineOf ls w .indent ≡ indentOf w
   unfolding lineOf
@@ -84,47 +71,36 @@ module _ (ls : List Line) (w : ℕ) where
   line-label : (u : List ℕ) → sort (lineOf ls w) ≡ label u → kindOf w ≡ 1 → sort (lineAt ls (originOf w)) ≡ label u
   line-label u e k = sym (ap sort (line-same (omega arith))) ∙ e
 
--- which rows are labels, and which are conditional jumps
 module _ (ls : List Line) (w : ℕ) where
+  -- what holds of each sort with its number holds of each sort with the kind of its row
+  by-kind : (P : Sort → ℕ → Type 0) → ((u : List ℕ) → Codes ls (label u) w → P (label u) 1) → ((t : List ℕ) → Aims ls t (nameOf w) → P (condTo t) 2)
+      → ((t : List ℕ) → Aims ls t (nameOf w) → P (jumpTo t) 3) → P plain 4 → P ifOpen 5 → P close 6 → P doOpen 7 → P whileClose 8
+      → (s : Sort) → Codes ls s w → P s (kindOf w)
+  by-kind P a b c d e f g h (label u) k = subst (P (label u)) (sym (k .0)) (a u k)
+  by-kind P a b c d e f g h (condTo t) k = subst (P (condTo t)) (sym (k .0)) (b t (k .1))
+  by-kind P a b c d e f g h (jumpTo t) k = subst (P (jumpTo t)) (sym (k .0)) (c t (k .1))
+  by-kind P a b c d e f g h plain k = subst (P plain) (sym k) d
+  by-kind P a b c d e f g h ifOpen k = subst (P ifOpen) (sym k) e
+  by-kind P a b c d e f g h close k = subst (P close) (sym k) f
+  by-kind P a b c d e f g h doOpen k = subst (P doOpen) (sym k) g
+  by-kind P a b c d e f g h whileClose k = subst (P whileClose) (sym k) h
+
+  -- which rows are labels, and which are conditional jumps
   has-label : (s : Sort) → Codes ls s w → has (labelName s) ≡ isLabel w
-  unfolding has labelName
-  has-label (label u) c = sym (kind-label w 1 (c .0))
-  has-label (condTo t) c = sym (kind-label w 2 (c .0))
-  has-label (jumpTo t) c = sym (kind-label w 3 (c .0))
-  has-label plain c = sym (kind-label w 4 c)
-  has-label ifOpen c = sym (kind-label w 5 c)
-  has-label close c = sym (kind-label w 6 c)
-  has-label doOpen c = sym (kind-label w 7 c)
-  has-label whileClose c = sym (kind-label w 8 c)
+  unfolding has labelName isLabel
+  has-label = by-kind (λ s k. has (labelName s) ≡ eqb k 1) (λ u c. refl) (λ t a. refl) (λ t a. refl) refl refl refl refl refl
 
   has-cond : (s : Sort) → Codes ls s w → has (condName s) ≡ isCond w
-  unfolding has condName
-  has-cond (label u) c = sym (kind-cond w 1 (c .0))
-  has-cond (condTo t) c = sym (kind-cond w 2 (c .0))
-  has-cond (jumpTo t) c = sym (kind-cond w 3 (c .0))
-  has-cond plain c = sym (kind-cond w 4 c)
-  has-cond ifOpen c = sym (kind-cond w 5 c)
-  has-cond close c = sym (kind-cond w 6 c)
-  has-cond doOpen c = sym (kind-cond w 7 c)
-  has-cond whileClose c = sym (kind-cond w 8 c)
+  unfolding has condName isCond
+  has-cond = by-kind (λ s k. has (condName s) ≡ eqb k 2) (λ u c. refl) (λ t a. refl) (λ t a. refl) refl refl refl refl refl
 
   -- the label of the name m, which is that of t
-  module _ (t : List ℕ) (m : ℕ) (a : Aims ls t m) where
-    no-label : (k : ℕ) → kindOf w ≡ k → eqb k 1 ≡ false → false ≡ labels m w
-    unfolding labels
-    no-label k e q = sym (ap (λ (b : Bool). b && eqb (nameOf w) m) (kind-label w k e ∙ q))
-
-    is-label : (s : Sort) → sort (lineOf ls w) ≡ s → Codes ls s w → is t (labelName s) ≡ labels m w
-    unfolding is labelName labels
-    is-label (label u) e c =
-        a (originOf w) u (line-label ls w u e (c .0)) ∙ ap (λ (q : ℕ). eqb q m) (sym (c .1)) ∙ sym (ap (λ (b : Bool). b && eqb (nameOf w) m) (kind-label w 1 (c .0)))
-    is-label (condTo t) e c = no-label 2 (c .0) refl
-    is-label (jumpTo t) e c = no-label 3 (c .0) refl
-    is-label plain e c = no-label 4 c refl
-    is-label ifOpen e c = no-label 5 c refl
-    is-label close e c = no-label 6 c refl
-    is-label doOpen e c = no-label 7 c refl
-    is-label whileClose e c = no-label 8 c refl
+  is-label : (t : List ℕ) (m : ℕ) → Aims ls t m → (s : Sort) → Codes ls s w → sort (lineOf ls w) ≡ s → is t (labelName s) ≡ labels m w
+  unfolding is labelName labels isLabel
+  is-label t m a =
+      by-kind (λ s k. sort (lineOf ls w) ≡ s → is t (labelName s) ≡ (eqb k 1 && eqb (nameOf w) m))
+      (λ u c e. a (originOf w) u (line-label ls w u e (c .0)) ∙ ap (λ (q : ℕ). eqb q m) (sym (c .1))) (λ t a e. refl) (λ t a e. refl)
+      (λ e. refl) (λ e. refl) (λ e. refl) (λ e. refl) (λ e. refl)
 
   -- a goto to the label v, whose text is u
   module _ (v : ℕ) (u : List ℕ) (ev : sort (lineOf ls v) ≡ label u) (cv : Codes ls (label u) v) where
@@ -132,35 +108,14 @@ module _ (ls : List Line) (w : ℕ) where
     same-name t a =
         same-swap t u ∙ a (originOf v) u (line-label ls v u ev (cv .0)) ∙ ap (λ (q : ℕ). eqb q (nameOf w)) (sym (cv .1)) ∙ eqb-swap (nameOf v) (nameOf w)
 
-    no-goto : (k : ℕ) → kindOf w ≡ k → (eqb k 2 || eqb k 3) ≡ false → false ≡ goesTo (nameOf v) w
-    unfolding goesTo
-    no-goto k e q = sym (ap (λ (b : Bool). b && eqb (nameOf w) (nameOf v)) (kind-goto w k e ∙ q))
-
     is-goto : (s : Sort) → Codes ls s w → is u (aimName s) ≡ goesTo (nameOf v) w
-    unfolding is aimName goesTo
-    is-goto (label t) c = no-goto 1 (c .0) refl
-    is-goto (condTo t) c = same-name t (c .1) ∙ sym (ap (λ (b : Bool). b && eqb (nameOf w) (nameOf v)) (kind-goto w 2 (c .0)))
-    is-goto (jumpTo t) c = same-name t (c .1) ∙ sym (ap (λ (b : Bool). b && eqb (nameOf w) (nameOf v)) (kind-goto w 3 (c .0)))
-    is-goto plain c = no-goto 4 c refl
-    is-goto ifOpen c = no-goto 5 c refl
-    is-goto close c = no-goto 6 c refl
-    is-goto doOpen c = no-goto 7 c refl
-    is-goto whileClose c = no-goto 8 c refl
-
-    no-back : (k : ℕ) → kindOf w ≡ k → eqb k 2 ≡ false → false ≡ backs (nameOf v) w
-    unfolding backs
-    no-back k e q = sym (ap (λ (b : Bool). b && eqb (nameOf w) (nameOf v)) (kind-cond w k e ∙ q))
+    unfolding is aimName goesTo isGoto
+    is-goto =
+        by-kind (λ s k. is u (aimName s) ≡ ((eqb k 2 || eqb k 3) && eqb (nameOf w) (nameOf v))) (λ u c. refl) same-name same-name refl refl refl refl refl
 
     is-back : (s : Sort) → Codes ls s w → is u (condName s) ≡ backs (nameOf v) w
-    unfolding is condName backs
-    is-back (label t) c = no-back 1 (c .0) refl
-    is-back (condTo t) c = same-name t (c .1) ∙ sym (ap (λ (b : Bool). b && eqb (nameOf w) (nameOf v)) (kind-cond w 2 (c .0)))
-    is-back (jumpTo t) c = no-back 3 (c .0) refl
-    is-back plain c = no-back 4 c refl
-    is-back ifOpen c = no-back 5 c refl
-    is-back close c = no-back 6 c refl
-    is-back doOpen c = no-back 7 c refl
-    is-back whileClose c = no-back 8 c refl
+    unfolding is condName backs isCond
+    is-back = by-kind (λ s k. is u (condName s) ≡ (eqb k 2 && eqb (nameOf w) (nameOf v))) (λ u c. refl) same-name (λ t a. refl) refl refl refl refl refl
 
 -- ---- the tests of the passes on a coded row
 module _ (ls : List Line) (l w : ℕ) (c : CodedRow ls l w) where
@@ -172,7 +127,7 @@ module _ (ls : List Line) (l w : ℕ) (c : CodedRow ls l w) where
 
   pub named-row : (t : List ℕ) (m : ℕ) → Aims ls t m → namedLine t (lineOf ls w) ≡ labels m w
   unfolding namedLine
-  named-row t m a = is-label ls w t m a (sort (lineOf ls w)) refl (c .codes)
+  named-row t m a = is-label ls w t m a (sort (lineOf ls w)) (c .codes) refl
 
   pub stops-row : (d : ℕ) → stopsLine d (lineOf ls w) ≡ stops d w
   unfolding stopsLine outer stops

@@ -4,6 +4,7 @@ pub mod Scanning
 pub mod Changed
 pub mod Shapes
 pub mod Held
+pub mod Trying
 pub mod IfStep
 pub mod RowSweep
 pub mod DoStep

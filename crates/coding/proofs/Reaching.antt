@@ -78,31 +78,23 @@ module _ (e i : ℕ) (h : i < 4294967295) where
       (omega arith, omega arith, λ z. omega arith)
 
 -- ---- what it says of the rows from B on, and below A
-any-drop : (p : ℕ → Bool) (B i w : ℕ) (ws : List ℕ) → any p (drop (B - i) (w ∷ ws)) ≡ ((leb B i && p w) || any p (drop (B - suc i) ws))
-unfolding any
-any-drop p B i w ws = go (decLe B i)
-  where
-    go : Dec (B ≤ i) → any p (drop (B - i) (w ∷ ws)) ≡ ((leb B i && p w) || any p (drop (B - suc i) ws))
-    go (yes h) =
-        let e : B - i ≡ 0 = omega arith in
-        let q : B - suc i ≡ 0 = omega arith in
-        rw (e, q, le-leb B i h)
-    go (no h) =
-        let e : B - i ≡ suc (B - suc i) = omega arith in
-        rw (e, lt-leb B i (omega arith))
+module _ (p : ℕ → Bool) (B i w : ℕ) (ws : List ℕ) where
+  cut-at : Dec (B ≤ i) → (any p (drop (B - i) (w ∷ ws)) ≡ ((leb B i && p w) || any p (drop (B - suc i) ws)))
+      × (any p (take (B - i) (w ∷ ws)) ≡ ((ltb i B && p w) || any p (take (B - suc i) ws)))
+  unfolding any
+  cut-at (yes h) =
+      let e : B - i ≡ 0 = omega arith in
+      let q : B - suc i ≡ 0 = omega arith in
+      (rw (e, q, le-leb B i h), rw (e, q, le-ltb i B h))
+  cut-at (no h) =
+      let e : B - i ≡ suc (B - suc i) = omega arith in
+      (rw (e, lt-leb B i (omega arith)), rw (e, lt-ltb i B (omega arith)))
 
-any-take : (p : ℕ → Bool) (A i w : ℕ) (ws : List ℕ) → any p (take (A - i) (w ∷ ws)) ≡ ((ltb i A && p w) || any p (take (A - suc i) ws))
-unfolding any
-any-take p A i w ws = go (decLt i A)
-  where
-    go : Dec (i < A) → any p (take (A - i) (w ∷ ws)) ≡ ((ltb i A && p w) || any p (take (A - suc i) ws))
-    go (yes h) =
-        let e : A - i ≡ suc (A - suc i) = omega arith in
-        rw (e, lt-ltb i A h)
-    go (no h) =
-        let e : A - i ≡ 0 = omega arith in
-        let q : A - suc i ≡ 0 = omega arith in
-        rw (e, q, le-ltb i A (omega arith))
+  any-drop : any p (drop (B - i) (w ∷ ws)) ≡ ((leb B i && p w) || any p (drop (B - suc i) ws))
+  any-drop = cut-at (decLe B i) .0
+
+  any-take : any p (take (B - i) (w ∷ ws)) ≡ ((ltb i B && p w) || any p (take (B - suc i) ws))
+  any-take = cut-at (decLe B i) .1
 
 out-is : (e a b : ℕ) → (e ≡ 0 → ⊥) → outside e a b ≡ (ltb (lowOf e) a || ltb b (highOf e))
 unfolding outside

@@ -15,7 +15,7 @@ use Rattle.definition.specs.Passes.Passed.{done as linesDone, tooDeep as linesD
 use Rattle.definition.proofs.Fits.{Fits}
 use Rattle.definition.proofs.Plain.{Good}
 use Rattle.definition.proofs.Regions.{Try}
-use Rattle.definition.proofs.Sweep.{tryAt, sweepN, sweep-none, sweep-deep, sweep-on, sweep-end, Goes}
+use Rattle.definition.proofs.Sweep.{tryAt, sweep, sweepN, sweep-none, sweep-deep, sweep-on, sweep-end, Goes}
 use Rattle.outline.specs.Rows.{lineOf, linesOf}
 use Rattle.outline.specs.Tests.{at}
 use Rattle.passes.specs.declared.sweeps.Passed.the-variants.{TooDeep}
@@ -117,7 +117,7 @@ module _ (ls : List Line) (l : ℕ) (try : List ℕ → List ℕ → ℕ → ℕ
     turned : Ends ls l R n (sweepRows try grown (suc f) R S k n c) (sweepN lineTry (suc e) k c (lines R n))
     turned = by-step (step R S n H k h (G .0) (λ o q. omega (arith, fewer o q)))
 
-  pub sweep-same : (f : ℕ) → Same f
+  sweep-same : (f : ℕ) → Same f
   sweep-same zero e R S k n c H G u v w = finished zero e R S k n c H G w (omega arith)
   sweep-same (suc f) e R S k n c H G u v w = go (sweep-same f) e v (decLt k n)
     where
@@ -125,3 +125,10 @@ module _ (ls : List Line) (l : ℕ) (try : List ℕ → List ℕ → ℕ → ℕ
       go ih e v (no h) = finished (suc f) e R S k n c H G w (omega arith)
       go ih zero v (yes h) = absurd (omega arith)
       go ih (suc e) v (yes h) = turned f ih e R S k n c H G u v w h
+
+  -- the sweep of a pass
+  pub pass-same : (R S : List ℕ) (n : ℕ) → Held ls l R S n → Good (lines R n) → n + conds (lines R n) ≤ length R
+      → Ends ls l R n (sweepRows try grown (length R + n) R S 0 n 0) (sweep lineTry (lines R n))
+  unfolding sweep
+  pass-same R S n H G w =
+      sweep-same (length R + n) (length (lines R n) + conds (lines R n)) R S 0 n 0 H G (omega arith) (omega (arith, lines-length R n (H .in-table))) w

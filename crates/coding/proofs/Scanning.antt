@@ -3,6 +3,7 @@ use mathlib.Core.Path.{_≡_, refl, sym, ap, ap₂, subst, _∙_}
 use mathlib.Core.Bool.{Bool, true, false, cond, _&&_, _||_}
 use mathlib.Core.Option.{Option, none, some}
 use mathlib.Core.List.{List, [], _∷_, map}
+use mathlib.Core.Logic.{_⊎_}
 use Prim.Native.Nat.{ℕ, zero, suc, _+_, _-_, _≤_, _<_}
 use native.Mathlib.Omega.{arith}
 use borrow.Author.Tests.{eq-eqb, ne-eqb}
@@ -16,7 +17,7 @@ use Rattle.definition.proofs.ListLaws.{each-head, each-tail}
 use Rattle.outline.specs.Rows.{indentOf, lineOf}
 use Rattle.outline.specs.Tests.{at, labels, backs, stops, verdict, backVerdict, along, someRow}
 use Rattle.passes.specs.Regions.{onward, labelFrom, latest, backFrom}
-use Rattle.passes.proofs.Goals.{label-within, back-within}
+use Rattle.passes.proofs.Goals.{within, onward-one, latest-one}
 use Rattle.coding.proofs.Coding.{Aims, CodedRow, Coded, indent-is, named-row, stops-row}
 
 -- f rows from row j on
@@ -79,42 +80,43 @@ module _ (ls : List Line) (l : ℕ) (R : List ℕ) (n : ℕ) (in-table : n ≤ l
   abbrev L : ℕ → Line
   L w = lineOf ls w
 
+  -- a search that finds nothing in no lines, and at each row acts on what the row says
+  module _ {C : Type 0} (search : List Line → Option C) (out : Bool → ℕ → List Line → Option C) (act : ℕ → ℕ → ℕ → ℕ → ℕ) (says : ℕ → ℕ)
+      (one : (v i r : ℕ) → (act v i n r ≡ i) ⊎ ((act v i n r ≡ n) ⊎ (act v i n r ≡ r))) (nothing : (p : ℕ) → search [] ≡ out true p [])
+      (turn : (w : ℕ) → CodedRow ls l w → (X : List Line) (j r : ℕ) → j < n → suc j ≤ r → search X ≡ out (eqb r n) (r - suc j) X
+      → search (L w ∷ X) ≡ out (eqb (act (says w) j n r) n) (act (says w) j n r - j) (L w ∷ X)) where
+    abbrev from : ℕ → ℕ → ℕ
+    from j f = along (λ i w r. act (says w) i n r) n R j f
+
+    search-rows : (f j : ℕ) → j + f ≡ n → Coded ls l (part R j f) → search (map L (part R j f)) ≡ out (eqb (from j f) n) (from j f - j) (map L (part R j f))
+    unfolding along
+    search-rows zero j e c = nothing (n - j) ∙ sym (ap (λ (b : Bool). out b (n - j) []) (eq-eqb n n refl))
+    search-rows (suc f) j e c =
+        let q : part R j (suc f) ≡ at R j ∷ part R (suc j) f = part-cons R j f (omega arith) in
+        let k : Coded ls l (at R j ∷ part R (suc j) f) = subst (Coded ls l) q c in
+        ap (λ (z : List ℕ). search (map L z)) q
+        ∙ turn (at R j) (each-head k) (map L (part R (suc j) f)) j (from (suc j) f) (omega arith) (within act says n R one f (suc j) (omega arith) .0)
+        (search-rows f (suc j) (omega arith) (each-tail k))
+        ∙ ap (λ (z : List ℕ). out (eqb (from j (suc f)) n) (from j (suc f) - j) (map L z)) (sym q)
+
   module _ (t : List ℕ) (m d : ℕ) (a : Aims ls t m) where
     pub scan-rows : (f j : ℕ) → j + f ≡ n → Coded ls l (part R j f)
         → scan t d (map L (part R j f)) ≡ cutB (eqb (labelFrom n m d R j f) n) (labelFrom n m d R j f - j) (map L (part R j f))
-    unfolding scan labelFrom along verdict
-    scan-rows zero j e c = sym (ap (λ (b : Bool). cutB b (n - j) []) (eq-eqb n n refl))
-    scan-rows (suc f) j e c =
-        let w : ℕ = at R j in
-        let X : List Line = map L (part R (suc j) f) in
-        let q : part R j (suc f) ≡ w ∷ part R (suc j) f = part-cons R j f (omega arith) in
-        let k : Coded ls l (w ∷ part R (suc j) f) = subst (Coded ls l) q c in
-        let r : ℕ = labelFrom n m d R (suc j) f in
-        let ef : f ≡ n - suc j = omega arith in
-        let le : suc j ≤ r = subst (λ (z : ℕ). suc j ≤ labelFrom n m d R (suc j) z) (sym ef) (label-within n m d R (suc j) (omega arith) .0) in
-        ap (λ (z : List ℕ). scan t d (map L z)) q
-        ∙ ap (scanAt (namedLine t (L w) && eqb (suc (L w .indent)) d) (stopsLine d (L w)) (L w) X) (scan-rows f (suc j) (omega arith) (each-tail k))
+    unfolding scan labelFrom verdict
+    scan-rows =
+        search-rows (scan t d) cutB onward (verdict m d) (onward-one n) (λ p. refl)
+        (λ w c X j r h le e. ap (scanAt (namedLine t (L w) && eqb (suc (L w .indent)) d) (stopsLine d (L w)) (L w) X) e
         ∙ ap₂ (λ (h s : Bool). scanAt h s (L w) X (cutB (eqb r n) (r - suc j) X))
-        (ap₂ (λ (b : Bool) (x : ℕ). b && eqb (suc x) d) (named-row ls l w (each-head k) t m a) (indent-is ls w)) (stops-row ls l w (each-head k) d)
-        ∙ scan-turn (L w) X j n r (omega arith) le (labels m w && eqb (suc (indentOf w)) d) (stops d w)
-        ∙ ap (λ (z : List ℕ). cutB (eqb (labelFrom n m d R j (suc f)) n) (labelFrom n m d R j (suc f) - j) (map L z)) (sym q)
+        (ap₂ (λ (b : Bool) (x : ℕ). b && eqb (suc x) d) (named-row ls l w c t m a) (indent-is ls w)) (stops-row ls l w c d)
+        ∙ scan-turn (L w) X j n r h le (labels m w && eqb (suc (indentOf w)) d) (stops d w))
 
   module _ (t : List ℕ) (m d : ℕ) (bk : (w : ℕ) → CodedRow ls l w → backsLine t (L w) ≡ backs m w) where
     pub back-rows : (f j : ℕ) → j + f ≡ n → Coded ls l (part R j f)
         → lastBack t d (map L (part R j f)) ≡ backB (eqb (backFrom n m d R j f) n) (backFrom n m d R j f - j) (map L (part R j f))
-    unfolding lastBack backFrom along backVerdict
-    back-rows zero j e c = sym (ap (λ (b : Bool). backB b (n - j) []) (eq-eqb n n refl))
-    back-rows (suc f) j e c =
-        let w : ℕ = at R j in
-        let X : List Line = map L (part R (suc j) f) in
-        let q : part R j (suc f) ≡ w ∷ part R (suc j) f = part-cons R j f (omega arith) in
-        let k : Coded ls l (w ∷ part R (suc j) f) = subst (Coded ls l) q c in
-        let r : ℕ = backFrom n m d R (suc j) f in
-        let ef : f ≡ n - suc j = omega arith in
-        let le : suc j ≤ r = subst (λ (z : ℕ). suc j ≤ backFrom n m d R (suc j) z) (sym ef) (back-within n m d R (suc j) (omega arith) .0) in
-        ap (λ (z : List ℕ). lastBack t d (map L z)) q
-        ∙ ap (backAt (stopsLine d (L w)) (eqb (L w .indent) d && backsLine t (L w)) (L w) X) (back-rows f (suc j) (omega arith) (each-tail k))
-        ∙ ap₂ (λ (s h : Bool). backAt s h (L w) X (backB (eqb r n) (r - suc j) X)) (stops-row ls l w (each-head k) d)
-        (ap₂ (λ (x : ℕ) (b : Bool). eqb x d && b) (indent-is ls w) (bk w (each-head k)))
-        ∙ back-turn (L w) X j n r (omega arith) le (stops d w) (eqb (indentOf w) d && backs m w)
-        ∙ ap (λ (z : List ℕ). backB (eqb (backFrom n m d R j (suc f)) n) (backFrom n m d R j (suc f) - j) (map L z)) (sym q)
+    unfolding lastBack backFrom backVerdict
+    back-rows =
+        search-rows (lastBack t d) backB latest (backVerdict m d) (latest-one n) (λ p. refl)
+        (λ w c X j r h le e. ap (backAt (stopsLine d (L w)) (eqb (L w .indent) d && backsLine t (L w)) (L w) X) e
+        ∙ ap₂ (λ (s h : Bool). backAt s h (L w) X (backB (eqb r n) (r - suc j) X)) (stops-row ls l w c d)
+        (ap₂ (λ (x : ℕ) (b : Bool). eqb x d && b) (indent-is ls w) (bk w c))
+        ∙ back-turn (L w) X j n r h le (stops d w) (eqb (indentOf w) d && backs m w))

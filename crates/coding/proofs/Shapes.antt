@@ -4,8 +4,8 @@ use mathlib.Core.List.{List, [], _∷_, _++_, map, append-assoc}
 use Prim.Native.Nat.{ℕ, suc, _+_, _-_, _≤_, _<_}
 use native.Mathlib.Omega.{arith}
 use native.Mathlib.Numerals.{add-one}
-use lib.ListN.{length, take, drop, set, length-append, length-drop}
-use lib.Seq.{take-at, drop-at, set-at, drop-drop, drop-cons, drop-set-lt, take-suc-set, take-add, append-snoc, length-take-le, take-append-add, drop-append-add}
+use lib.ListN.{length, take, drop, set, length-append, length-drop, take-append-drop}
+use lib.Seq.{take-at, drop-at, set-at, drop-drop, drop-cons, drop-set-lt, take-suc-set, take-add, append-snoc, length-take-le}
 use Rattle.outline.specs.Tests.{at}
 use Rattle.outline.specs.Forming.{changedIn, raised, inserted}
 use Rattle.passes.specs.Regions.{opened, headed, whiled, closeRow, formedIf, formedDo}
@@ -33,6 +33,11 @@ rows-split R k n h l =
     let e : n ≡ k + suc (n - (k + 1)) = omega arith in
     ap (λ (z : ℕ). take z R) e ∙ take-add k (suc (n - (k + 1))) R
     ∙ ap (λ (z : List ℕ). take k R ++ take (suc (n - (k + 1))) z) (drop-cons R k 0 (omega arith) ∙ ap (λ (z : ℕ). at R k ∷ drop z R) (sym (add-one k)))
+
+-- m rows F before what stood behind the first m rows of R
+shape : (R Q F : List ℕ) (m : ℕ) → m ≤ length R → Q ≡ F ++ drop m R → length F ≡ m → (take m Q ≡ F) × (drop m Q ≡ drop m R) × (length Q ≡ length R)
+shape R Q F m h e q =
+    (ap (take m) e ∙ take-at F (drop m R) m q, ap (drop m) e ∙ drop-at F (drop m R) m q, omega (arith, ap length e, length-append F (drop m R), length-drop m R))
 
 module _ (R : List ℕ) (k j : ℕ) (h : k < j) (l : j ≤ length R) where
   -- v at k, and the rows behind it up to j raised
@@ -69,55 +74,40 @@ module _ (R : List ℕ) (k j : ℕ) (h : k < j) (l : j ≤ length R) where
     abbrev ifRow : List ℕ
     ifRow = front (opened (at R k)) ++ closeRow (at R k) ∷ part R j (n - j)
 
-    if-is : formedIf R n k j ≡ ifRow ++ drop (suc n) R
+    if-is : formedIf R n k j ≡ ifRow ++ drop (n + 1) R
     unfolding formedIf
-    if-is = ap (λ (z : List ℕ). inserted z n j (closeRow (at R k))) (front-is (opened (at R k))) ∙ inserted-is (opened (at R k)) (closeRow (at R k))
+    if-is =
+        ap (λ (z : List ℕ). inserted z n j (closeRow (at R k))) (front-is (opened (at R k))) ∙ inserted-is (opened (at R k)) (closeRow (at R k))
+        ∙ ap (λ (z : ℕ). ifRow ++ drop z R) (sym (add-one n))
 
-    if-row-length : length ifRow ≡ suc n
-    if-row-length =
+    if-long : length ifRow ≡ n + 1
+    if-long =
         omega (arith, length-append (front (opened (at R k))) (closeRow (at R k) ∷ part R j (n - j)), front-length (opened (at R k)), part-length R j (n - j) (omega arith))
 
-    -- the rows of the if, and what stands behind them
-    pub if-rows : take (n + 1) (formedIf R n k j) ≡ ifRow
-    if-rows = ap₂ take (add-one n) if-is ∙ take-at ifRow (drop (suc n) R) (suc n) if-row-length
-
-    pub if-behind : drop (n + 1) (formedIf R n k j) ≡ drop (n + 1) R
-    if-behind = ap₂ drop (add-one n) if-is ∙ drop-at ifRow (drop (suc n) R) (suc n) if-row-length ∙ ap (λ (z : ℕ). drop z R) (sym (add-one n))
-
-    pub if-length : length (formedIf R n k j) ≡ length R
-    if-length = omega (arith, ap length if-is, length-append ifRow (drop (suc n) R), if-row-length, length-drop (suc n) R)
+    -- the rows of the if, what stands behind them, and the length
+    pub if-shape : (take (n + 1) (formedIf R n k j) ≡ ifRow) × (drop (n + 1) (formedIf R n k j) ≡ drop (n + 1) R) × (length (formedIf R n k j) ≡ length R)
+    if-shape = shape R (formedIf R n k j) ifRow (n + 1) (omega arith) if-is if-long
 
   -- the row at j changed
   module _ (n : ℕ) (g : j < n) (room : n ≤ length R) where
-    abbrev doRow : List ℕ
-    doRow = front (headed (at R k)) ++ whiled (at R j) ∷ part R (j + 1) (n - (j + 1))
+    abbrev head : List ℕ
+    head = front (headed (at R k))
 
-    do-is : formedDo R k j ≡ front (headed (at R k)) ++ whiled (at R j) ∷ drop (j + 1) R
+    abbrev rest : List ℕ
+    rest = part R (j + 1) (n - (j + 1))
+
+    do-is : formedDo R k j ≡ (head ++ whiled (at R j) ∷ rest) ++ drop n R
     unfolding formedDo at
     do-is =
-        ap (λ (z : List ℕ). set z j (whiled (at R j))) (front-is (headed (at R k)) ∙ ap (λ (z : List ℕ). front (headed (at R k)) ++ z) (drop-cons R j 0 (omega arith)))
-        ∙ set-at (front (headed (at R k))) (at R j) (drop (suc j) R) (whiled (at R j)) j (front-length (headed (at R k)))
-        ∙ ap (λ (z : ℕ). front (headed (at R k)) ++ whiled (at R j) ∷ drop z R) (sym (add-one j))
-
-    do-places : n ≡ length (front (headed (at R k))) + suc (n - (j + 1))
-    do-places = omega (arith, front-length (headed (at R k)))
-
-    pub do-rows : take n (formedDo R k j) ≡ doRow
-    do-rows =
-        ap₂ take do-places do-is ∙ take-append-add (front (headed (at R k))) (whiled (at R j) ∷ drop (j + 1) R) (suc (n - (j + 1)))
-
-    pub do-behind : drop n (formedDo R k j) ≡ drop n R
-    do-behind =
         let e : j + 1 + (n - (j + 1)) ≡ n = omega arith in
-        ap₂ drop do-places do-is ∙ drop-append-add (front (headed (at R k))) (whiled (at R j) ∷ drop (j + 1) R) (suc (n - (j + 1)))
-        ∙ drop-drop (n - (j + 1)) (j + 1) R ∙ ap (λ (z : ℕ). drop z R) e
+        ap (λ (z : List ℕ). set z j (whiled (at R j))) (front-is (headed (at R k)) ∙ ap (λ (z : List ℕ). head ++ z) (drop-cons R j 0 (omega arith)))
+        ∙ set-at head (at R j) (drop (suc j) R) (whiled (at R j)) j (front-length (headed (at R k)))
+        ∙ ap (λ (z : List ℕ). head ++ whiled (at R j) ∷ z) (ap (λ (z : ℕ). drop z R) (sym (add-one j)) ∙ sym (take-append-drop (n - (j + 1)) (drop (j + 1) R))
+        ∙ ap (λ (z : List ℕ). rest ++ z) (drop-drop (n - (j + 1)) (j + 1) R ∙ ap (λ (z : ℕ). drop z R) e))
+        ∙ sym (append-assoc head (whiled (at R j) ∷ rest) (drop n R))
 
-    pub do-length : length (formedDo R k j) ≡ length R
-    do-length =
-        omega (
-          arith,
-          ap length do-is,
-          length-append (front (headed (at R k))) (whiled (at R j) ∷ drop (j + 1) R),
-          front-length (headed (at R k)),
-          length-drop (j + 1) R,
-        )
+    do-long : length (head ++ whiled (at R j) ∷ rest) ≡ n
+    do-long = omega (arith, length-append head (whiled (at R j) ∷ rest), front-length (headed (at R k)), part-length R (j + 1) (n - (j + 1)) (omega arith))
+
+    pub do-shape : (take n (formedDo R k j) ≡ head ++ whiled (at R j) ∷ rest) × (drop n (formedDo R k j) ≡ drop n R) × (length (formedDo R k j) ≡ length R)
+    do-shape = shape R (formedDo R k j) (head ++ whiled (at R j) ∷ rest) n room do-is do-long

@@ -12,7 +12,6 @@ use Rattle.definition.specs.Passes.Passed.{done as linesDone, tooDeep as linesD
 use Rattle.definition.specs.Listing.{structure, afterIfs, afterLoops, padded}
 use Rattle.definition.specs.Listing.Outcome.{refused, listed}
 use Rattle.definition.proofs.Plain.{Good}
-use Rattle.definition.proofs.Sweep.{sweep}
 use Rattle.definition.proofs.SweepIf.{if-goes, ifs-swept}
 use Rattle.definition.proofs.SweepDo.{do-goes, loops-swept}
 use Rattle.records.proofs.Padded.{drop-zeros}
@@ -24,9 +23,8 @@ use Rattle.passes.specs.Sweeps.{Swept, swept, done, ifTried, doTried, keeps, if
 use Rattle.passes.specs.Dropping.{Gathered, gathered, keptRow, keptRows, dropRows}
 use Rattle.passes.proofs.Gathering.{only-length}
 use Rattle.coding.proofs.Coding.{Coded}
-use Rattle.coding.proofs.Shapes.{map-length}
 use Rattle.coding.proofs.Held.{Held, spans-length}
-use Rattle.coding.proofs.RowSweep.{Ends, over, deeper, sweep-same}
+use Rattle.coding.proofs.RowSweep.{Ends, over, deeper, pass-same}
 use Rattle.coding.proofs.IfStep.{if-step}
 use Rattle.coding.proofs.DoStep.{do-step}
 use Rattle.coding.proofs.DropStep.{drop-lines}
@@ -42,26 +40,20 @@ module _ (ls : List Line) (S : List ℕ) (R : List ℕ) (n : ℕ) (A : Ready ls 
   begun : Held ls (length S) R (spansOf (length S) R n) n
   begun = record { in-table = omega (arith, A .room); few = A .few; spans = refl; coded = A .coded }
 
-  lines-length : length (linesOf ls (take n R)) ≡ n
-  unfolding linesOf
-  lines-length = map-length _ (take n R) ∙ length-take-le n R (omega (arith, A .room))
-
   -- the pass for ifs, and the pass for loops, end on rows as they end on lines
   pub if-ends : Ends ls (length S) R n (ifRows R S n) (structureIfs (linesOf ls (take n R)))
-  unfolding ifRows sweep
+  unfolding ifRows
   if-ends =
       subst (Ends ls (length S) R n (ifRows R S n)) (sym (ifs-swept (linesOf ls (take n R)) (A .good)))
-      (sweep-same ls (length S) ifTried _+_ ifTry (λ m. omega arith) (λ m. (omega arith, omega arith)) if-goes (if-step ls (length S)) (length R + n)
-      (length (linesOf ls (take n R)) + conds (linesOf ls (take n R))) R (spansOf (length S) R n) 0 n 0 begun (A .good)
-      (omega (arith, A .room)) (omega (arith, lines-length)) (A .room))
+      (pass-same ls (length S) ifTried _+_ ifTry (λ m. omega arith) (λ m. (omega arith, omega arith)) if-goes (if-step ls (length S))
+      R (spansOf (length S) R n) n begun (A .good) (A .room))
 
   pub do-ends : Ends ls (length S) R n (doRows R S n) (structureDoWhile (linesOf ls (take n R)))
-  unfolding doRows sweep
+  unfolding doRows
   do-ends =
       subst (Ends ls (length S) R n (doRows R S n)) (sym (loops-swept (linesOf ls (take n R)) (A .good)))
-      (sweep-same ls (length S) doTried keeps doTry (λ m. refl) (λ m. (omega arith, omega arith)) do-goes (λ Q T m H k h f r. do-step ls (length S) Q T m H k h f) (length R + n)
-      (length (linesOf ls (take n R)) + conds (linesOf ls (take n R))) R (spansOf (length S) R n) 0 n 0 begun (A .good)
-      (omega (arith, A .room)) (omega (arith, lines-length)) (A .room))
+      (pass-same ls (length S) doTried keeps doTry (λ m. refl) (λ m. (omega arith, omega arith)) do-goes (λ Q T m H k h f r. do-step ls (length S) Q T m H k h f)
+      R (spansOf (length S) R n) n begun (A .good) (A .room))
 
 -- ---- what a pass answered tells how it ended
 isDone : Passed → Bool

@@ -2,7 +2,7 @@
 -- counted.
 use mathlib.Core.Path.{_≡_, refl, sym, ap, subst⁻¹, _∙_}
 use mathlib.Core.Bool.{Bool, true, false, cond, _&&_}
-use mathlib.Core.List.{List, map}
+use mathlib.Core.List.{List, [], map}
 use Prim.Native.Nat.{ℕ, suc, _+_, _-_, _≤_, _<_}
 use native.Mathlib.Omega.{arith}
 use borrow.Author.Tests.{eq-eqb, ne-eqb}
@@ -23,26 +23,41 @@ use Rattle.comparisons.specs.declared.looks.Look.{Look}
 use Rattle.comparisons.specs.Looks.{opened, shut, marked, unseen, stepped, looked, Within}
 
 -- ---- a token
-module _ (u : Token) where
-  opened-punct : (o : ℕ) → u .kind ≡ 6 → opened o u ≡ o + count (eqb 40) (u .text)
-  unfolding opened
-  opened-punct o e = rw (eq-eqb (u .kind) 6 e)
+-- the bytes b of a Punct, counted on from o
+abbrev counted : ℕ → ℕ → Token → ℕ
+counted b o u = cond (eqb (u .kind) 6) (o + count (eqb b) (u .text)) o
 
-  shut-punct : (c : ℕ) → u .kind ≡ 6 → shut c u ≡ c + count (eqb 41) (u .text)
+module _ (u : Token) (b : ℕ) where
+  counted-punct : (o : ℕ) → u .kind ≡ 6 → counted b o u ≡ o + count (eqb b) (u .text)
+  counted-punct o e = rw (eq-eqb (u .kind) 6 e)
+
+  counted-most : (o : ℕ) → counted b o u ≤ o + length (u .text)
+  counted-most o = by-cond (λ n. n ≤ o + length (u .text)) (eqb (u .kind) 6) (λ e. omega (arith, count-length (eqb b) (u .text))) (λ e. omega arith)
+
+  counted-none : u .text ≡ [] → (o : ℕ) → counted b o u ≡ o
+  unfolding count
+  counted-none none o = by-cond (λ n. n ≡ o) (eqb (u .kind) 6) (λ e. ap (λ (s : List ℕ). o + count (eqb b) s) none ∙ omega arith) (λ e. refl)
+
+module _ (u : Token) where
+  opened-most : (o : ℕ) → opened o u ≤ o + length (u .text)
+  unfolding opened
+  opened-most = counted-most u 40
+
+  shut-most : (c : ℕ) → shut c u ≤ c + length (u .text)
   unfolding shut
-  shut-punct c e = rw (eq-eqb (u .kind) 6 e)
+  shut-most = counted-most u 41
+
+  pub opened-none : u .text ≡ [] → (o : ℕ) → opened o u ≡ o
+  unfolding opened
+  opened-none = counted-none u 40
+
+  pub shut-none : u .text ≡ [] → (c : ℕ) → shut c u ≡ c
+  unfolding shut
+  shut-none = counted-none u 41
 
   marked-punct : (o c : ℕ) → u .kind ≡ 6 → marked o c u ≡ (eqb (opened o u) (shut c u) && compares (u .text))
   unfolding marked
   marked-punct o c e = rw (eq-eqb (u .kind) 6 e)
-
-  opened-most : (o : ℕ) → opened o u ≤ o + length (u .text)
-  unfolding opened
-  opened-most o = by-cond (λ n. n ≤ o + length (u .text)) (eqb (u .kind) 6) (λ e. omega (arith, count-length (eqb 40) (u .text))) (λ e. omega arith)
-
-  shut-most : (c : ℕ) → shut c u ≤ c + length (u .text)
-  unfolding shut
-  shut-most c = by-cond (λ n. n ≤ c + length (u .text)) (eqb (u .kind) 6) (λ e. omega (arith, count-length (eqb 41) (u .text))) (λ e. omega arith)
 
 -- ---- a step
 module _ (l : Look) (k : ℕ) (u : Token) where
@@ -86,11 +101,16 @@ module _ (ks t : List ℕ) (c : Clip) (k : ℕ) (l : Look) where
     unfolding clipAt
     u-text = rw (from, to)
 
+    u-counted : (b o i : ℕ) → i ≡ count (eqb b) (between t f e) → counted b o u ≡ o + i
+    u-counted b o i q = counted-punct u b o u-kind ∙ ap (λ (s : List ℕ). o + count (eqb b) s) u-text ∙ ap (λ (z : ℕ). o + z) (sym q)
+
     u-opens : opened (l .opens) u ≡ l .opens + n
-    u-opens = opened-punct u (l .opens) u-kind ∙ ap (λ (s : List ℕ). l .opens + count (eqb 40) s) u-text ∙ ap (λ (z : ℕ). l .opens + z) (sym opens)
+    unfolding opened
+    u-opens = u-counted 40 (l .opens) n opens
 
     u-closes : shut (l .closes) u ≡ l .closes + m
-    u-closes = shut-punct u (l .closes) u-kind ∙ ap (λ (s : List ℕ). l .closes + count (eqb 41) s) u-text ∙ ap (λ (z : ℕ). l .closes + z) (sym closes)
+    unfolding shut
+    u-closes = u-counted 41 (l .closes) m closes
 
     u-marked : marked (l .opens) (l .closes) u ≡ (eqb (l .opens + n) (l .closes + m) && compares (between t f e))
     u-marked = marked-punct u (l .opens) (l .closes) u-kind ∙ rw (u-opens, u-closes, u-text)

@@ -12,10 +12,12 @@ use Rattle.definition.specs.Lists.{gather, range}
 use Rattle.definition.specs.Contents.{size}
 use Rattle.definition.specs.Values.{Value}
 use Rattle.definition.specs.Meaning.{phiValue, assigned, strict}
+use Rattle.definition.proofs.Runs.{run-then}
 use Rattle.defined.specs.declared.value.Value.{Value as CValue}
 use Rattle.defined.specs.declared.value.Defined.{Defined}
 use Rattle.defined.specs.declared.value.Defined.the-variants.{Nothing, One}
 use Rattle.defined.specs.Defined.{valueOf, listOf}
+use Rattle.defined.proofs.Ranges.{singles}
 use Rattle.defined.specs.Slots.{place, mask, free, marked, Slots, slots, taken, takes}
 
 -- ---- one value
@@ -49,10 +51,9 @@ pub take-given : (t : List ℕ) (d : Defined) (v : CValue) (s : Slots) → d ≡
 take-given t d v s e h = rw e (take-read t (valueOf v) (valueOf v) s refl h)
 
 -- ---- runs of values
-takes-append : (xs ys : List Value) (s : Slots) → takes s (xs ++ ys) ≡ takes (takes s xs) ys
+takes-then : (s u r : Slots) (xs ys : List Value) → u ≡ takes s xs → r ≡ takes u ys → r ≡ takes s (xs ++ ys)
 unfolding takes
-takes-append [] ys s = refl
-takes-append (x ∷ xs) ys s = takes-append xs ys (cond (s .apart) (taken (s .table) x) s)
+takes-then = run-then takes (λ s x. cond (s .apart) (taken (s .table) x) s) (λ s. refl) (λ s x xs. refl)
 
 pub stays : (xs : List Value) (t : List ℕ) → takes (slots t false) xs ≡ slots t false
 unfolding takes
@@ -62,12 +63,10 @@ stays (x ∷ xs) t = stays xs t
 -- what was taken first leaves u and r
 module _ (t u : List ℕ) (r : Bool) (xs ys : List Value) (says : slots u r ≡ takes (slots t true) xs) where
   pub both-go : (s : Slots) → not r ≡ false → s ≡ takes (slots u true) ys → s ≡ takes (slots t true) (xs ++ ys)
-  both-go s h e =
-      e ∙ ap (λ (b : Bool). takes (slots u b) ys) (sym (not-false r h)) ∙ ap (λ (z : Slots). takes z ys) says ∙ sym (takes-append xs ys (slots t true))
+  both-go s h e = takes-then (slots t true) (slots u r) s xs ys says (e ∙ ap (λ (b : Bool). takes (slots u b) ys) (sym (not-false r h)))
 
   pub both-stop : not r ≡ true → slots u false ≡ takes (slots t true) (xs ++ ys)
-  both-stop h =
-      sym (stays ys u) ∙ ap (λ (b : Bool). takes (slots u b) ys) (sym (not-true r h)) ∙ ap (λ (z : Slots). takes z ys) says ∙ sym (takes-append xs ys (slots t true))
+  both-stop h = takes-then (slots t true) (slots u r) (slots u false) xs ys says (sym (stays ys u) ∙ ap (λ (b : Bool). takes (slots u b) ys) (sym (not-true r h)))
 
 -- the loop over the numbers below n, whatever list each gives; s is what the whole comes to
 module _ (g : ℕ → List Value) (n : ℕ) (s : Slots) where
@@ -93,16 +92,11 @@ module _ (g : ℕ → List Value) (n : ℕ) (s : Slots) where
     runs-end l = let k : n - i ≡ 0 = omega arith in sym (rw k at h)
 
 -- phis, each as a list of one
-one-each : (g : ℕ → Value) (xs : List ℕ) → gather (λ i. g i ∷ []) xs ≡ map g xs
-unfolding gather
-one-each g [] = refl
-one-each g (x ∷ xs) = ap (λ (l : List Value). g x ∷ l) (one-each g xs)
-
 abbrev pub phiList : List ℕ → ℕ → List Value
 phiList f i = phiValue f i ∷ []
 
 pub phis-are : (f : List ℕ) (s : Slots) → takes s (gather (phiList f) (range 0 (size f phis))) ≡ takes s (map (phiValue f) (range 0 (size f phis)))
-phis-are f s = ap (takes s) (one-each (phiValue f) (range 0 (size f phis)))
+phis-are f s = ap (takes s) (sym (singles (phiValue f) (range 0 (size f phis))))
 
 -- phis, then Assigns
 module _ (f t u : List ℕ) (r : Bool) (says : slots u r ≡ takes (slots t true) (map (phiValue f) (range 0 (size f phis)))) where

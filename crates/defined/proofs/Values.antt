@@ -10,12 +10,11 @@ use mir.Syntax.{w8}
 use mir.Val.{Fits}
 use borrow.Author.Tests.{eq-eqb, ne-eqb}
 use Rattle.definition.specs.Edition.{statements}
-use Rattle.definition.specs.Contents.{size, phiWord, itemWord}
+use Rattle.definition.specs.Contents.{size}
 use Rattle.definition.specs.Owners.{stmtKind, stmtField, exprItems, valueItems, firstItem}
 use Rattle.definition.specs.Shape.{owned}
 use Rattle.definition.specs.Values.{Value, value, eqv}
-use Rattle.definition.specs.Meaning.{phiValue, assigned, callReturns}
-use Rattle.defined.specs.Defined.{itemValue}
+use Rattle.definition.specs.Meaning.{assigned, callReturns}
 use Rattle.records.proofs.Laws.{both-items}
 use Rattle.records.proofs.Items.{first-turn, items-few, items-fit, exprs-fit}
 
@@ -28,16 +27,7 @@ pub same-reg : (a b : Value) (t : Bool) → a .reg ≡ b .reg → t ≡ eqb (a .
 unfolding eqv
 same-reg a b t h e = rw (eq-eqb (a .reg) (b .reg) h) e
 
--- ---- values read
-pub phi-read : (f : List ℕ) (i r n : ℕ) → r ≡ phiWord f i 0 → n ≡ phiWord f i 1 → value r n ≡ phiValue f i
-unfolding phiValue
-phi-read f i r n p q = ap₂ value p q
-
-pub item-read : (f : List ℕ) (k r n : ℕ) → r ≡ itemWord f k 0 → n ≡ itemWord f k 1 → value r n ≡ itemValue f k
-unfolding itemValue
-item-read f k r n p q = ap₂ value p q
-
--- of statement i, whose kind k was read
+-- ---- of statement i, whose kind k was read
 module _ (f : List ℕ) (i k : ℕ) (kind : k ≡ stmtKind f i) where
   pub assigns-not : (k ≡ 1 → ⊥) → [] ≡ assigned f i
   unfolding assigned

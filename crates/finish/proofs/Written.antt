@@ -1,7 +1,6 @@
 -- What the functions write: a row's tokens by its kind, its line where its tokens are ended, and one line more at each turn.
-use mathlib.Core.Path.{_≡_, refl, sym, ap, _∙_}
-use mathlib.Core.Bool.{Bool, true, false, cond}
-use mathlib.Core.Option.{Option, none, some}
+use mathlib.Core.Path.{_≡_, ap, _∙_}
+use mathlib.Core.Option.{Option}
 use mathlib.Core.List.{List, [], _∷_, map}
 use Prim.Native.Nat.{ℕ, suc, _+_, _*_, _-_, _<_}
 use native.Mathlib.Omega.{arith}
@@ -12,9 +11,9 @@ use Rattle.definition.specs.Negate.{closeTokens, openTokens, doTokens, whileTok
 use Rattle.records.proofs.Ranges.{map-snoc}
 use Rattle.room.specs.declared.out.Out.{Out}
 use Rattle.room.specs.declared.out.At.the-variants.{Nowhere, Address}
-use Rattle.room.specs.Room.{Room, Sheet, sheetOf, isFull, emitAll, seen, optionOf, writeLine, writeAll, seenSheet}
+use Rattle.room.specs.Room.{Room, Sheet, sheetOf, emitAll, seen, optionOf, writeAll, seenSheet}
 use Rattle.room.specs.Ending.{Ended}
-use Rattle.room.proofs.Laws.{seen-end, writes, written-none}
+use Rattle.room.proofs.Laws.{line-ended, writes, written-none}
 use Rattle.sheet.specs.Buffers.{numberAt, tokensIn, firstOf, lastOf}
 use Rattle.outline.specs.Rows.{kindOf, originOf, indentOf}
 use Rattle.outline.specs.Tests.{at}
@@ -79,27 +78,6 @@ module _ (r r₀ : Room) (k : ℕ) (ts : List Token) where
   is-later n m h = rw (ne-eqb k 6 n, ne-eqb k 5 m) h
 
 -- ---- a row's line
--- what is seen of a sheet is told by its lines and by what is seen of its room
-withLines : List ℕ → Option Room → Option Sheet
-withLines l none = none
-withLines l (some r) = some (record { lines = l; room = r })
-
-sheet-is : (l : List ℕ) (r : Room) → seenSheet (record { lines = l; room = r }) ≡ withLines l (seen r)
-unfolding seenSheet seen withLines
-sheet-is l r = go (isFull r)
-  where
-    go : (b : Bool) → cond b none (some (record { lines = l; room = r })) ≡ withLines l (cond b none (some r))
-    go true = refl
-    go false = refl
-
-line-ended : (l l′ : List ℕ) (r₀ r₁ : Room) (o : Out) (x : Line) → seen r₁ ≡ seen (emitAll r₀ (x .toks)) → Ended l (r₁ .out) (x .indent) (x .addr) l′ o
-    → seenSheet (sheetOf l′ (r₁ .tokens) (r₁ .text) o) ≡ seenSheet (writeAll (record { lines = l; room = r₀ }) (x ∷ []))
-unfolding writeAll writeLine
-line-ended l l′ r₀ r₁ o x e d =
-    let q = emitAll r₀ (x .toks) in
-    ap seenSheet (d .whole (r₁ .tokens) (r₁ .text))
-    ∙ seen-end (record { lines = l; room = r₁ }) (record { lines = l; room = q }) (sheet-is l r₁ ∙ ap (withLines l) e ∙ sym (sheet-is l q)) (x .indent) (x .addr)
-
 module _ (ls ks t : List ℕ) (w : ℕ) where
   pub row-written : (l l′ : List ℕ) (r₀ r₁ : Room) (o : Out) (i k a n d : ℕ) (p : Option ℕ) → i ≡ originOf w → k ≡ kindOf w → a ≡ firstOf ls i → n ≡ countOf ls i
       → seen r₁ ≡ seen (emitAll r₀ (kindToks k (tokensIn ks t a n))) → d ≡ indentOf w → p ≡ rowAddress ls w → Ended l (r₁ .out) d p l′ o

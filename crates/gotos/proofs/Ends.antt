@@ -112,8 +112,10 @@ module _ (E : Edition) (f : List ℕ) (b : ℕ) where
 
   module _ (leaves : Bool) (on : leaves ≡ false) (x : BlockS) (is : x ≡ blockRecord f b) where
     -- by where it goes
-    closing-by : (o : Option ℕ) → edge ≡ o → (s s₀ : Sheet) → seenSheet s ≡ seenSheet (writeAll s₀ (closing (loweringOf E f) (hereAt E f b) o))
-        → seenSheet s ≡ seenSheet (writeAll s₀ (closed leaves))
+    abbrev Closes : Option ℕ → Type 0
+    Closes o = (s s₀ : Sheet) → seenSheet s ≡ seenSheet (writeAll s₀ (closing (loweringOf E f) (hereAt E f b) o)) → seenSheet s ≡ seenSheet (writeAll s₀ (closed leaves))
+
+    closing-by : (o : Option ℕ) → edge ≡ o → Closes o
     closing-by o p s s₀ e =
         lines-are s s₀ (closing (loweringOf E f) (hereAt E f b) o) (closed leaves)
         (ap (λ (c : Bool). cond c [] (closing (loweringOf E f) (hereAt E f b) edge)) on ∙ ap (closing (loweringOf E f) (hereAt E f b)) p) e
@@ -122,27 +124,15 @@ module _ (E : Edition) (f : List ℕ) (b : ℕ) where
     unfolding hereAt blockAt
     edge-by = ap₂ (λ (o p : Option ℕ). orElse o p) (fall-is f b x is) (taken-is f b x is)
 
-    edge-fall : x .fall .there ≡ true → edge ≡ some (x .fall .address)
+    pub closing-fall : x .fall .there ≡ true → Closes (some (x .fall .address))
     unfolding orElse
-    edge-fall h = edge-by ∙ rw h
-
-    pub closing-fall : (s s₀ : Sheet) → x .fall .there ≡ true → seenSheet s ≡ seenSheet (writeAll s₀ (closing (loweringOf E f) (hereAt E f b) (some (x .fall .address))))
-        → seenSheet s ≡ seenSheet (writeAll s₀ (closed leaves))
-    closing-fall s s₀ h e = closing-by (some (x .fall .address)) (edge-fall h) s s₀ e
+    closing-fall h = closing-by (some (x .fall .address)) (edge-by ∙ rw h)
 
     module _ (n : x .fall .there ≡ false) where
-      edge-taken : x .taken .there ≡ true → edge ≡ some (x .taken .address)
+      pub closing-taken : x .taken .there ≡ true → Closes (some (x .taken .address))
       unfolding orElse
-      edge-taken h = edge-by ∙ rw (n, h)
-
-      edge-none : x .taken .there ≡ false → edge ≡ none
-      unfolding orElse
-      edge-none h = edge-by ∙ rw (n, h)
-
-      pub closing-taken : (s s₀ : Sheet) → x .taken .there ≡ true → seenSheet s ≡ seenSheet (writeAll s₀ (closing (loweringOf E f) (hereAt E f b) (some (x .taken .address))))
-          → seenSheet s ≡ seenSheet (writeAll s₀ (closed leaves))
-      closing-taken s s₀ h e = closing-by (some (x .taken .address)) (edge-taken h) s s₀ e
+      closing-taken h = closing-by (some (x .taken .address)) (edge-by ∙ rw (n, h))
 
       pub closing-none : (s : Sheet) → x .taken .there ≡ false → seenSheet s ≡ seenSheet (writeAll s (closed leaves))
-      unfolding closing
-      closing-none s h = closing-by none (edge-none h) s s (written-none s)
+      unfolding closing orElse
+      closing-none s h = closing-by none (edge-by ∙ rw (n, h)) s s (written-none s)

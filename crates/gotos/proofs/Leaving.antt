@@ -14,7 +14,7 @@ use Rattle.definition.specs.Read.{treeAt, allTrees}
 use Rattle.definition.specs.Tokens.{textual, keyword, symbol, address, punct}
 use Rattle.definition.specs.Lower.{gotoTokens, commaList}
 use Rattle.room.specs.Room.{Room, Sheet, emit, emitAll, seen, writeAll, seenSheet}
-use Rattle.room.proofs.Laws.{next, more, done, writes, written-none, pieces-are}
+use Rattle.room.proofs.Laws.{next, more, done, one, writes, written-none, pieces-are}
 use Rattle.lowering.specs.Lowered.{loweringOf}
 use Rattle.gotos.specs.Written.{usesOf, nameOf, stmtLine, nameTokens, returnIf, callTokens, endTokens, returnLine, tailBy, tailOf, leaveOf}
 use Rattle.gotos.proofs.Using.{uses-are}
@@ -27,7 +27,7 @@ module _ (returns : Bool) where
 
   pub return-put : (r r₁ r₀ : Room) → returns ≡ true → r₁ ≡ emit r₀ (keyword (txt "return")) → r ≡ emit r₁ (textual (txt " ")) → seen r ≡ seen (emitAll r₀ (returnIf returns))
   unfolding returnIf
-  return-put r r₁ r₀ h p q = rw h (next r r₀ (keyword (txt "return")) (textual (txt " ") ∷ []) p (next r r₁ (textual (txt " ")) [] q (done r)))
+  return-put r r₁ r₀ h p q = rw h (next r r₀ _ _ p (one r r₁ _ q))
 
   module _ (f : List ℕ) (i : ℕ) where
     pub end-not : (s : Sheet) → returns ≡ true → seenSheet s ≡ seenSheet (writeAll s (returnLine f i returns))
@@ -37,10 +37,6 @@ module _ (returns : Bool) where
     pub end-line : (s s₀ : Sheet) → returns ≡ false → seenSheet s ≡ seenSheet (writeAll s₀ (stmtLine f i endTokens)) → seenSheet s ≡ seenSheet (writeAll s₀ (returnLine f i returns))
     unfolding returnLine
     end-line s s₀ h k = rw h k
-
-pub end-put : (r r₁ r₀ : Room) → r₁ ≡ emit r₀ (keyword (txt "return")) → r ≡ emit r₁ (punct (txt ";")) → seen r ≡ seen (emitAll r₀ endTokens)
-unfolding endTokens
-end-put r r₁ r₀ p q = next r r₀ (keyword (txt "return")) (punct (txt ";") ∷ []) p (next r r₁ (punct (txt ";")) [] q (done r))
 
 module _ (E : Edition) (f : List ℕ) (a : ℕ) where
   pub named-put : (r r₃ r₂ r₁ r₀ : Room) (item n : ℕ) → r₁ ≡ emit r₀ (symbol (nameOf E f a)) → r₂ ≡ emit r₁ (punct (txt "("))
@@ -52,7 +48,7 @@ module _ (E : Edition) (f : List ℕ) (a : ℕ) where
       let end = punct (txt ")") ∷ [] in
       next r r₀ (symbol (nameOf E f a)) (punct (txt "(") ∷ (args ++ end)) p
       (next r r₁ (punct (txt "(")) (args ++ end) q
-      (more r r₃ r₂ args end (pieces-are r₃ r₂ _ args h (ap (commaList (loweringOf E f)) (uses-are E f item n))) (next r r₃ (punct (txt ")")) [] k (done r))))
+      (more r r₃ r₂ args end (pieces-are r₃ r₂ _ args h (ap (commaList (loweringOf E f)) (uses-are E f item n))) (one r r₃ (punct (txt ")")) k)))
 
   module _ (xs : List Expr) where
     pub call-put : (r r₂ r₁ r₀ : Room) (returns : Bool) → seen r₁ ≡ seen (emitAll r₀ (returnIf returns)) → seen r₂ ≡ seen (emitAll r₁ (nameTokens E f a xs)) → r ≡ emit r₂ (punct (txt ";"))
@@ -60,7 +56,7 @@ module _ (E : Edition) (f : List ℕ) (a : ℕ) where
     unfolding callTokens
     call-put r r₂ r₁ r₀ returns g h k =
         let end = punct (txt ";") ∷ [] in
-        more r r₁ r₀ (returnIf returns) (nameTokens E f a xs ++ end) g (more r r₂ r₁ (nameTokens E f a xs) end h (next r r₂ (punct (txt ";")) [] k (done r)))
+        more r r₁ r₀ (returnIf returns) (nameTokens E f a xs ++ end) g (more r r₂ r₁ (nameTokens E f a xs) end h (one r r₂ (punct (txt ";")) k))
 
     -- ---- the lines
     pub tail-put : (i w : ℕ) → w ≡ word f 8 → (s s₁ s₀ : Sheet) → seenSheet s₁ ≡ seenSheet (writeAll s₀ (stmtLine f i (callTokens E f a (eqb w 1) xs)))

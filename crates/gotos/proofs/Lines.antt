@@ -16,7 +16,7 @@ use Rattle.marks.specs.Labels.{nextAt}
 use Rattle.room.specs.declared.out.Out.{Out}
 use Rattle.room.specs.Room.{Room, Sheet, sheetOf, roomOf, emit, emitAll, seen, writeAll, seenSheet}
 use Rattle.room.specs.Ending.{Ended}
-use Rattle.room.proofs.Laws.{next, more, done, line-ends, pieces-are}
+use Rattle.room.proofs.Laws.{next, more, one, line-ends, pieces-are}
 use Rattle.lowering.specs.Lowered.{loweringOf}
 use Rattle.gotos.specs.Written.{usesOf, stmtLine, toBlock, computedTokens}
 use Rattle.lowering.proofs.Lines.{left-out, not-out}
@@ -49,7 +49,7 @@ module _ (E : Edition) (f : List ℕ) (item : ℕ) where
       let xs = firstOf (loweringOf E f) (usesOf E f item n) in
       let end = punct (txt ";") ∷ [] in
       next r r₀ (keyword (txt "goto")) (punct (txt " *") ∷ (xs ++ end)) a
-      (next r r₁ (punct (txt " *")) (xs ++ end) b (more r r₃ r₂ xs end c (next r r₃ (punct (txt ";")) [] d (done r))))
+      (next r r₁ (punct (txt " *")) (xs ++ end) b (more r r₃ r₂ xs end c (one r r₃ (punct (txt ";")) d)))
 
   pub computed-all : (r r₀ : Room) (i n : ℕ) → n ≡ stmtField f i 6 → seen r ≡ seen (emitAll r₀ (computedTokens E f item n))
       → seen r ≡ seen (emitAll r₀ (computedTokens E f item (stmtField f i 6)))

@@ -1,6 +1,5 @@
 -- The uses of a branch as trees, and the first of them, if there is one.
 use mathlib.Core.Path.{_≡_, refl, ap}
-use mathlib.Core.Bool.{false}
 use mathlib.Core.List.{List, map}
 use Prim.Native.Nat.{ℕ, zero, suc, _+_}
 use Rattle.definition.specs.Edition.{Edition}
@@ -11,7 +10,7 @@ use Rattle.definition.specs.Lower.{firstOf}
 use Rattle.room.specs.Room.{Room, emitAll, seen}
 use Rattle.room.proofs.Laws.{done, pieces-are}
 use Rattle.lowering.specs.Lowered.{loweringOf, exprOf}
-use Rattle.lowering.specs.Commas.{comma, argOf, treesOf, listed}
+use Rattle.lowering.specs.Commas.{treesOf, listed}
 use Rattle.lowering.proofs.Commas.{listed-is}
 use Rattle.gotos.specs.Written.{usesOf}
 
@@ -24,8 +23,8 @@ module _ (E : Edition) (f : List ℕ) where
   unfolding usesOf treesOf listed range firstOf
   first-none r item n h = rw h (done r)
 
-  pub first-put : (r r₀ : Room) (item n x : ℕ) → (n ≡ 0 → ⊥) → x ≡ itemWord f item 0 → seen r ≡ seen (emitAll r₀ (argOf E f false x))
+  pub first-put : (r r₀ : Room) (item n x : ℕ) → (n ≡ 0 → ⊥) → x ≡ itemWord f item 0 → seen r ≡ seen (emitAll r₀ (exprOf E f x))
       → seen r ≡ seen (emitAll r₀ (firstOf (loweringOf E f) (usesOf E f item n)))
-  unfolding usesOf treesOf listed range firstOf argOf comma exprOf
+  unfolding usesOf treesOf listed range firstOf exprOf
   first-put r r₀ item zero x h p q = absurd (h refl)
   first-put r r₀ item (suc n) x h p q = pieces-are r r₀ _ _ q (ap (exprOf E f) p)

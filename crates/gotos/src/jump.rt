@@ -3,7 +3,7 @@ use crate::goto::put_goto;
 use lowering::kinds::KEYWORD;
 use lowering::kinds::PUNCT;
 use lowering::line::end_stmt;
-use lowering::list::put_arg;
+use lowering::list::put_expr;
 use marks::labels::is_next;
 use pieces::put::put;
 use records::contents::item_word;
@@ -66,7 +66,7 @@ fn put_first(
         return out;
     }
     let x = item_word(f, item, 0);
-    put_arg(
+    put_expr(
         tokens,
         text,
         out,
@@ -78,7 +78,6 @@ fn put_first(
         placed,
         names,
         x,
-        false,
     )
 }
 

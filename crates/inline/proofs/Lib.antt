@@ -6,6 +6,5 @@ mod Telling
 mod Adding
 pub mod Forgetting
 pub mod Rising
-pub mod Standing
 pub mod Apart
 pub mod Unique

@@ -23,7 +23,7 @@ use Rattle.definition.proofs.Bools.{by-test, both-true}
 use Rattle.words.proofs.Laws.{word-small}
 use Rattle.values.specs.Keys.{keyOf, stmtKey, placesOf, keyed}
 use Rattle.values.specs.Tables.{at, table}
-use Rattle.values.proofs.Tables.{table-read, table-write}
+use Rattle.values.proofs.Tables.{table-read, table-write, Names}
 use Rattle.values.proofs.Placed.{at-stmt, keyed-length, stmt-here}
 use Rattle.reads.specs.Counts.{lastReader}
 use Rattle.reads.proofs.ReadAtAll.{bit-not}
@@ -82,19 +82,23 @@ module _ (f numbers live phi readers loads : List ℕ) (told : Told f numbers li
     unfolding stmtKey
     key = at-stmt f (length numbers) (told .own) i inside ∙ rw assigns refl
 
-    here : placesOf f .stmts + i < length (keyed f (length numbers))
-    here = omega (arith, stmt-here f i inside, keyed-length f (length numbers) (told .own) (told .room), told .room)
+    named : Names f (length numbers) (placesOf f .stmts + i) (target f i)
+    named = record {
+      here = omega (arith, stmt-here f i inside, keyed-length f (length numbers) (told .own) (told .room), told .room);
+      is = key;
+      small = word-small f bytes _;
+    }
 
     tells : (g : Value → ℕ) (t : List ℕ) → t ≡ table f (length numbers) g → at t number ≡ g (target f i)
     tells g t e =
         ap₂ (λ (a b : List ℕ). at a (at b (placesOf f .stmts + i))) e (told .number)
-        ∙ table-read f (length numbers) g (placesOf f .stmts + i) (stmtField f i 0) (stmtField f i 1) here key (word-small f bytes _)
+        ∙ table-read f (length numbers) g (placesOf f .stmts + i) (target f i) named
 
     pub writes : (g : Value → ℕ) (t : List ℕ) (x : ℕ) → t ≡ table f (length numbers) g
         → set t number x ≡ table f (length numbers) (λ w. cond (eqv (target f i) w) x (g w))
     writes g t x e =
         ap₂ (λ (a b : List ℕ). set a (at b (placesOf f .stmts + i)) x) e (told .number)
-        ∙ table-write f (length numbers) g (placesOf f .stmts + i) (stmtField f i 0) (stmtField f i 1) here key (word-small f bytes _) x
+        ∙ table-write f (length numbers) g (placesOf f .stmts + i) (target f i) named x
 
     once-so : (E : Edition) → marked f i 1 ≡ false → single f i (at phi number) (at live number) ≡ readOnce (readsOf (read E f)) (target f i)
     unfolding single readOnce readsOf

@@ -10,10 +10,10 @@ use lib.ListN.{take, getD}
 use mir.Syntax.{w8}
 use mir.Val.{Fits}
 use borrow.Author.Tests.{eq-eqb, ne-eqb}
-use Rattle.definition.specs.Edition.{Edition, statements}
+use Rattle.definition.specs.Edition.{Edition}
 use Rattle.definition.specs.Texts.{txt, begins}
 use Rattle.definition.specs.Lists.{among, orElse}
-use Rattle.definition.specs.Contents.{size, blockWord, blockLong, stmtLong, textAt}
+use Rattle.definition.specs.Contents.{blockWord, blockLong, stmtLong, textAt}
 use Rattle.definition.specs.Owners.{stmtKind, stmtField, exprItems}
 use Rattle.definition.specs.References.{itemExprs}
 use Rattle.definition.specs.Ssa.{Expr, Stmt}
@@ -33,11 +33,11 @@ use Rattle.inline.specs.Placing.{behind}
 use Rattle.marks.specs.Labels.{startAt, nextAt}
 use Rattle.room.specs.Room.{Sheet, writeAll, seenSheet}
 use Rattle.room.proofs.Laws.{written-none}
-use Rattle.lowering.specs.Lowered.{loweringOf, lowered, hereAt}
+use Rattle.lowering.specs.Lowered.{loweringOf, stmtOf, lowered, hereAt}
 use Rattle.jumps.specs.Given.{BranchAt}
 use Rattle.lowering.specs.Commas.{least}
 use Rattle.gotos.specs.Written.{usesOf, nameOf, stmtLine, toBlock, computedTokens, nameTokens, returnIf, callTokens, endTokens, returnLine, tailBy, tailOf, leaveOf}
-use Rattle.jumps.specs.Written.{conditionOf, ifTokens, aimOf, testTokens, fallTo, fallOf, ifLines, jumpOf, plainTo, goalOf, plainOf}
+use Rattle.jumps.specs.Written.{conditionOf, ifTokens, ownOf, aimOf, testTokens, fallTo, fallOf, ifLines, jumpOf, plainTo, goalOf, plainOf}
 use Rattle.lowering.proofs.Commas.{least-le, take-listed}
 use Rattle.lowering.proofs.Gen.{lowering-returns, lowering-args}
 use Rattle.jumps.proofs.Naming.{name-is}
@@ -49,8 +49,7 @@ use Rattle.gotos.proofs.Ends.{lines-are}
 module _ (f : List ℕ) (block i item : ℕ) (at : BranchAt f block i item) where
   pub args-fit : ((k : ℕ) → Fits w8 (getD f k 0)) → (count x n : ℕ) → x ≡ stmtField f i 6 → n ≡ least count x → item + n < 4294967296
   args-fit bytes count x n e p =
-      let here : i < size f statements = omega (arith, at .before-end, at .ends) in
-      let few : item + exprItems f i < 4294967296 = exprs-fit f (items-few f bytes (at .own)) i refl here (at .first) in
+      let few : item + exprItems f i < 4294967296 = exprs-fit f (items-few f bytes (at .own)) i refl (at .here) (at .first) in
       let all : x ≡ exprItems f i = branch-exprs f i (stmtKind f i) x refl (at .kind) e in
       omega (arith, least-le count x)
 
@@ -100,29 +99,23 @@ module _ (E : Edition) (f : List ℕ) (b i a : ℕ) (xs : List Expr) (d : Bool) 
 
 -- ---- all of it
 module _ (E : Edition) (f : List ℕ) (b i item count : ℕ) (at : BranchAt f b i item) (set : List ℕ) (regs : count ≡ countSet set (read E f .args)) where
-  abbrev stmt : Stmt
-  stmt = stmtAt E f (allTrees E f) i
-
   abbrev uses : List Expr
   uses = usesOf E f item (stmtField f i 6)
 
   abbrev args : List Expr
   args = usesOf E f item (least count (stmtField f i 6))
 
-  abbrev own : Option ℕ
-  own = when (stmtField f i 3) (stmtLong f i 8)
-
   -- the conditional
-  fall-by : (o : Option ℕ) → fallLine (loweringOf E f) (hereAt E f b) stmt o ≡ fallTo E f b i o
+  fall-by : (o : Option ℕ) → fallLine (loweringOf E f) (hereAt E f b) (stmtOf E f i) o ≡ fallTo E f b i o
   unfolding fallLine fallTo hereAt nextAt startAt stmtLine stmtAt
   fall-by none = refl
   fall-by (some a) = ap (λ (n : List ℕ). cond (isNext (nextAt f b) a) [] (stmtLine f i (gotoTokens (symbol n)))) (name-is E f a)
 
-  fall-is : fallLine (loweringOf E f) (hereAt E f b) stmt (hereAt E f b .block .fall) ≡ fallOf E f b i
+  fall-is : fallLine (loweringOf E f) (hereAt E f b) (stmtOf E f i) (hereAt E f b .block .fall) ≡ fallOf E f b i
   unfolding fallOf hereAt blockAt
   fall-is = fall-by (when (blockWord f b 5) (blockLong f b 6))
 
-  if-is : branchIf (loweringOf E f) (hereAt E f b) stmt (textAt E f (stmtField f i 1) (stmtField f i 2)) own ≡ ifLines E f b i
+  if-is : branchIf (loweringOf E f) (hereAt E f b) (stmtOf E f i) (textAt E f (stmtField f i 1) (stmtField f i 2)) (ownOf f i) ≡ ifLines E f b i
   unfolding branchIf ifLines testTokens ifTokens conditionOf aimOf stmtLine stmtAt hereAt blockAt
   if-is =
       ap₂ (λ (n : List ℕ) (ls : List Line). stmtLine f i (ifTokens E f b i ++ (punct (txt ") ") ∷ gotoTokens (symbol n))) ++ ls) (name-is E f (aimOf f b i)) fall-is
@@ -139,39 +132,39 @@ module _ (E : Edition) (f : List ℕ) (b i item count : ℕ) (at : BranchAt f b 
   tail-by a true xs = refl
   tail-by a false xs = refl
 
-  tail-is : (a : ℕ) → tailCall (loweringOf E f) set stmt (nameOf E f a) uses ≡ tailOf E f i a args
+  tail-is : (a : ℕ) → tailCall (loweringOf E f) set (stmtOf E f i) (nameOf E f a) uses ≡ tailOf E f i a args
   unfolding tailCall tailOf nameTokens stmtLine stmtAt
   tail-is a = tail-by a (loweringOf E f .returns) _ ∙ ap₂ (λ (r : Bool) (xs : List Expr). tailBy E f i a r xs) (lowering-returns E f) args-are
 
-  leave-is : (a : ℕ) → leave (loweringOf E f) set stmt (nameOf E f a) uses ≡ leaveOf E f i a args
+  leave-is : (a : ℕ) → leave (loweringOf E f) set (stmtOf E f i) (nameOf E f a) uses ≡ leaveOf E f i a args
   unfolding leave leaveOf stmtLine stmtAt
   leave-is a = ap (λ (ls : List Line). cond (begins (txt "*") (nameOf E f a)) (stmtLine f i (gotoTokens (address (nameOf E f a)))) ls) (tail-is a)
 
-  to-is : (o : Option ℕ) → branchTo (loweringOf E f) (hereAt E f b) set stmt o uses ≡ plainTo E f b i item (stmtField f i 6) (least count (stmtField f i 6)) o
+  to-is : (o : Option ℕ) → branchTo (loweringOf E f) (hereAt E f b) set (stmtOf E f i) o uses ≡ plainTo E f b i item (stmtField f i 6) (least count (stmtField f i 6)) o
   unfolding branchTo plainTo jumpOf computedTokens toBlock stmtLine stmtAt hereAt nextAt startAt loweringOf lowering
   to-is none = refl
   to-is (some a) =
-      ap (λ (n : List ℕ). cond (among a (order (read E f))) (toBlock f b i a) (leave (loweringOf E f) set stmt n uses)) (name-is E f a)
+      ap (λ (n : List ℕ). cond (among a (order (read E f))) (toBlock f b i a) (leave (loweringOf E f) set (stmtOf E f i) n uses)) (name-is E f a)
       ∙ ap (λ (ls : List Line). cond (among a (order (read E f))) (toBlock f b i a) ls) (leave-is a)
 
-  plain-is : branchTo (loweringOf E f) (hereAt E f b) set stmt (orElse own (hereAt E f b .block .taken)) uses ≡ plainOf E f b i item count
+  plain-is : branchTo (loweringOf E f) (hereAt E f b) set (stmtOf E f i) (orElse (ownOf f i) (hereAt E f b .block .taken)) uses ≡ plainOf E f b i item count
   unfolding plainOf goalOf hereAt blockAt
-  plain-is = to-is (orElse own (when (blockWord f b 2) (blockLong f b 3)))
+  plain-is = to-is (orElse (ownOf f i) (when (blockWord f b 2) (blockLong f b 3)))
 
   -- the record
   items-are : map (treeAt (allTrees E f)) (itemExprs f i) ≡ uses
   unfolding itemExprs exprItems
   items-are = rw (at .kind, ← at .first) (uses-are E f item (stmtField f i 6))
 
-  kind-is : kindAt E f (allTrees E f) i ≡ Branch (when (stmtField f i 0) (textAt E f (stmtField f i 1) (stmtField f i 2))) own uses
+  kind-is : kindAt E f (allTrees E f) i ≡ Branch (when (stmtField f i 0) (textAt E f (stmtField f i 1) (stmtField f i 2))) (ownOf f i) uses
   unfolding kindAt
-  kind-is = rw (at .kind) (ap (λ (us : List Expr). Branch (when (stmtField f i 0) (textAt E f (stmtField f i 1) (stmtField f i 2))) own us) items-are)
+  kind-is = rw (at .kind) (ap (λ (us : List Expr). Branch (when (stmtField f i 0) (textAt E f (stmtField f i 1) (stmtField f i 2))) (ownOf f i) us) items-are)
 
   module _ (pend : List Stmt) (end : ℕ) where
     lowered-is : lowered E f (hereAt E f b) pend set end i
-        ≡ cond (marked f i 1) [] (branch (loweringOf E f) (hereAt E f b) set stmt (when (stmtField f i 0) (textAt E f (stmtField f i 1) (stmtField f i 2))) own uses)
+        ≡ cond (marked f i 1) [] (branch (loweringOf E f) (hereAt E f b) set (stmtOf E f i) (when (stmtField f i 0) (textAt E f (stmtField f i 1) (stmtField f i 2))) (ownOf f i) uses)
     unfolding lowered stmtAt lowerKind
-    lowered-is = ap (lowerKind (loweringOf E f) (hereAt E f b) pend set stmt (behind E f end i)) kind-is
+    lowered-is = ap (lowerKind (loweringOf E f) (hereAt E f b) pend set (stmtOf E f i) (behind E f end i)) kind-is
 
     module _ (d : Bool) (says : d ≡ marked f i 1) where
       pub branch-dead : (s : Sheet) → d ≡ true → seenSheet s ≡ seenSheet (writeAll s (lowered E f (hereAt E f b) pend set end i))
@@ -179,10 +172,10 @@ module _ (E : Edition) (f : List ℕ) (b i item count : ℕ) (at : BranchAt f b 
 
       module _ (s s₀ : Sheet) (live : d ≡ false) (w : ℕ) (tests : w ≡ stmtField f i 0) where
         live-is : (c : Option (List ℕ)) → when (stmtField f i 0) (textAt E f (stmtField f i 1) (stmtField f i 2)) ≡ c
-            → lowered E f (hereAt E f b) pend set end i ≡ branch (loweringOf E f) (hereAt E f b) set stmt c own uses
+            → lowered E f (hereAt E f b) pend set end i ≡ branch (loweringOf E f) (hereAt E f b) set (stmtOf E f i) c (ownOf f i) uses
         live-is c p =
             lowered-is
-            ∙ ap₂ (λ (q : Bool) (o : Option (List ℕ)). cond q [] (branch (loweringOf E f) (hereAt E f b) set stmt o own uses)) (sym says ∙ live) p
+            ∙ ap₂ (λ (q : Bool) (o : Option (List ℕ)). cond q [] (branch (loweringOf E f) (hereAt E f b) set (stmtOf E f i) o (ownOf f i) uses)) (sym says ∙ live) p
 
         pub branch-if : w ≡ 1 → seenSheet s ≡ seenSheet (writeAll s₀ (ifLines E f b i)) → seenSheet s ≡ seenSheet (writeAll s₀ (lowered E f (hereAt E f b) pend set end i))
         unfolding branch

@@ -11,7 +11,7 @@ use Rattle.definition.specs.Lists.{range, orElse, given}
 use Rattle.definition.specs.Contents.{text, stmtLong, textAt}
 use Rattle.definition.specs.Owners.{stmtField, blockStmts, firstStmt}
 use Rattle.definition.specs.Shape.{owned}
-use Rattle.definition.specs.Read.{when, allTrees, stmtAt, blockAt}
+use Rattle.definition.specs.Read.{allTrees, stmtAt, blockAt}
 use Rattle.definition.specs.Lookup.{isNext}
 use Rattle.definition.specs.Tokens.{keyword, symbol, punct}
 use Rattle.definition.specs.Render.{Gen}
@@ -28,7 +28,7 @@ use Rattle.conditions.specs.declared.operands.Found.{Found}
 use Rattle.conditions.specs.Pairs.{foundTokens, Set}
 use Rattle.conditions.proofs.Pairing.{found-is}
 use Rattle.gotos.specs.Written.{nameOf, stmtLine}
-use Rattle.jumps.specs.Written.{conditionOf, ifTokens, aimOf, testTokens, fallTo, fallOf, ifLines}
+use Rattle.jumps.specs.Written.{conditionOf, ifTokens, ownOf, aimOf, testTokens, fallTo, fallOf, ifLines}
 use Rattle.render.proofs.Opening.{gen-all}
 use Rattle.gotos.proofs.Edges.{taken-is, fall-is}
 use Rattle.lowering.proofs.Lines.{left-out, not-out}
@@ -36,12 +36,9 @@ use Rattle.gotos.proofs.Ends.{lines-are}
 
 -- ---- where it goes
 module _ (f : List ℕ) (b i : ℕ) (x : Block) (is : x ≡ blockRecord f b) where
-  abbrev own : Option ℕ
-  own = when (stmtField f i 3) (stmtLong f i 8)
-
-  aim-by : aimOf f b i ≡ given 0 (orElse (viewDestination (x .taken)) own)
+  aim-by : aimOf f b i ≡ given 0 (orElse (viewDestination (x .taken)) (ownOf f i))
   unfolding aimOf
-  aim-by = ap (λ (o : Option ℕ). given 0 (orElse o own)) (taken-is f b x is)
+  aim-by = ap (λ (o : Option ℕ). given 0 (orElse o (ownOf f i))) (taken-is f b x is)
 
   pub aim-taken : x .taken .there ≡ true → x .taken .address ≡ aimOf f b i
   unfolding orElse given

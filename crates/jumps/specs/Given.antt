@@ -2,18 +2,16 @@
 use mathlib.Core.Path.{_≡_}
 use mathlib.Core.Bool.{true}
 use mathlib.Core.List.{List}
-use Prim.Native.Nat.{ℕ, _+_, _≤_, _<_}
+use Prim.Native.Nat.{ℕ, _<_}
 use Rattle.definition.specs.Codes.{kBranch}
 use Rattle.definition.specs.Edition.{blocks, statements}
 use Rattle.definition.specs.Contents.{size}
-use Rattle.definition.specs.Owners.{stmtKind, blockStmts, firstStmt, firstItem}
+use Rattle.definition.specs.Owners.{stmtKind, firstItem}
 use Rattle.definition.specs.Shape.{owned}
 
 pub record BranchAt (f : List ℕ) (block i item : ℕ) : Type 0 where
   pub kind : stmtKind f i ≡ kBranch
   pub inside : block < size f blocks
-  pub from : firstStmt f block ≤ i
-  pub before-end : i < firstStmt f block + blockStmts f block
-  pub ends : firstStmt f block + blockStmts f block ≤ size f statements
+  pub here : i < size f statements
   pub first : item ≡ firstItem f i
   pub own : owned f ≡ true

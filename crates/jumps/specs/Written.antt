@@ -27,9 +27,13 @@ conditionOf E f b i = condition (loweringOf E f .gen) (hereAt E f b .block .stmt
 unfoldable pub ifTokens : Edition → List ℕ → ℕ → ℕ → List Token
 ifTokens E f b i = keyword (txt "if") ∷ punct (txt " (") ∷ conditionOf E f b i
 
+-- a branch's own target
+abbrev pub ownOf : List ℕ → ℕ → Option ℕ
+ownOf f i = when (stmtField f i 3) (stmtLong f i 8)
+
 -- where it goes: the block's taken edge, else its own target, else 0
 unfoldable pub aimOf : List ℕ → ℕ → ℕ → ℕ
-aimOf f b i = given 0 (orElse (when (blockWord f b 2) (blockLong f b 3)) (when (stmtField f i 3) (stmtLong f i 8)))
+aimOf f b i = given 0 (orElse (when (blockWord f b 2) (blockLong f b 3)) (ownOf f i))
 
 unfoldable pub testTokens : Edition → List ℕ → ℕ → ℕ → List Token
 testTokens E f b i = ifTokens E f b i ++ (punct (txt ") ") ∷ gotoTokens (symbol (nameOf E f (aimOf f b i))))
@@ -55,7 +59,7 @@ plainTo E f b i item n m (some a) = jumpOf E f b i a (usesOf E f item m)
 
 -- its own target, else where the block goes
 unfoldable pub goalOf : List ℕ → ℕ → ℕ → Option ℕ
-goalOf f b i = orElse (when (stmtField f i 3) (stmtLong f i 8)) (when (blockWord f b 2) (blockLong f b 3))
+goalOf f b i = orElse (ownOf f i) (when (blockWord f b 2) (blockLong f b 3))
 
 unfoldable pub plainOf : Edition → List ℕ → ℕ → ℕ → ℕ → ℕ → List Line
 plainOf E f b i item count = plainTo E f b i item (stmtField f i 6) (least count (stmtField f i 6)) (goalOf f b i)

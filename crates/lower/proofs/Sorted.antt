@@ -104,24 +104,22 @@ pub ends-there : (E : Edition) (f : List ℕ) (H : Here) (pend : List Stmt) (set
     → seenSheet s ≡ seenSheet (writeAll s₀ (lowered E f H pend set e i)) → seenSheet s ≡ seenSheet (writeAll s₀ (lowered E f H pend set end i))
 ends-there E f H pend set e end i s s₀ p h = h ∙ ap (λ (n : ℕ). seenSheet (writeAll s₀ (lowered E f H pend set n i))) (sym p)
 
-module _ (f : List ℕ) (own : owned f ≡ true) (block i end item from : ℕ) (at : StmtAt f block i end item from) where
+module _ (f : List ℕ) (own : owned f ≡ true) (block i end item : ℕ) (at : StmtAt f block i end item) where
   pub inside : (i < end) × (end ≤ size f statements)
   inside = (at .before-end, omega (arith, at .ends, parts-below f own block (at .inside) .1))
 
   pub here-at : i < size f statements
   here-at = omega (arith, inside .0, inside .1)
 
-  pub call-at : stmtKind f i ≡ 3 → CallAt f i item from
-  call-at e = record { kind = e; inside = here-at; first = at .first; behind = at .waits; own = own }
+  pub call-at : stmtKind f i ≡ 3 → CallAt f i item
+  call-at e = record { kind = e; inside = here-at; first = at .first; own = own }
 
   pub branch-at : stmtKind f i ≡ 4 → BranchAt f block i item
   branch-at e =
       record {
         kind = e;
         inside = at .inside;
-        from = at .start;
-        before-end = omega (arith, at .before-end, at .ends);
-        ends = parts-below f own block (at .inside) .1;
+        here = here-at;
         first = at .first;
         own = own;
       }

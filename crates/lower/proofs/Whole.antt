@@ -3,9 +3,8 @@ use mathlib.Core.Path.{_≡_, refl, sym, ap, ap₂, _∙_}
 use mathlib.Core.Bool.{Bool, false, cond}
 use mathlib.Core.Option.{Option}
 use mathlib.Core.List.{List, [], _++_, map}
-use Prim.Native.Nat.{ℕ, zero, suc, _+_, _-_, _≤_, _<_}
+use Prim.Native.Nat.{ℕ, suc, _+_, _-_, _≤_, _<_}
 use native.Mathlib.Omega.{arith}
-use borrow.Author.Tests.{lt-ltb, le-ltb}
 use Rattle.definition.specs.Edition.{Edition, blocks}
 use Rattle.definition.specs.Lists.{orElse, range}
 use Rattle.definition.specs.Contents.{size, blockLong}
@@ -13,10 +12,11 @@ use Rattle.definition.specs.Owners.{blockStmts, firstStmt}
 use Rattle.definition.specs.Ssa.{Block}
 use Rattle.definition.specs.Read.{read, allTrees, stmtAt, blockAt}
 use Rattle.definition.specs.Offsets.{offsets}
-use Rattle.definition.specs.Lookup.{nextOf}
 use Rattle.definition.specs.Tokens.{Line}
 use Rattle.definition.specs.Lower.{Here}
 use Rattle.definition.specs.Blocks.{lastLeaves, closing, labelLine, lowerStmts, lowerBlock, lowerBlocks, lower}
+use Rattle.marks.specs.Labels.{nextAt, startAt}
+use Rattle.marks.proofs.Jumping.{next-is}
 use Rattle.room.specs.declared.out.Out.{Out}
 use Rattle.room.specs.Blank.{fresh}
 use Rattle.room.specs.Room.{Sheet, sheetOf, writeAll, seenSheet}
@@ -58,19 +58,14 @@ module _ (E : Edition) (f : List ℕ) where
         ∙ ap (λ (ls : List Line). seenSheet (writeAll s₀ ls)) (block-is l (g ∙ leaves-is first n e d))
 
   -- ---- all blocks
-  next-is : (b m : ℕ) → b + suc m ≡ size f blocks → nextOf (map B (range (b + 1) m)) ≡ hereAt E f b .next
-  unfolding nextOf range blockAt hereAt
-  next-is b zero e = rw (le-ltb (b + 1) (size f blocks) (omega arith))
-  next-is b (suc m) e = rw (lt-ltb (b + 1) (size f blocks) (omega arith))
-
   blocks-cons : (b : ℕ) → b < size f blocks → blockLines E f b ≡ lowerBlock (loweringOf E f) (hereAt E f b) ++ blockLines E f (b + 1)
-  unfolding blockLines lowerBlocks range hereAt
+  unfolding blockLines lowerBlocks range hereAt nextAt startAt
   blocks-cons b h =
       let m = size f blocks - (b + 1) in
       let k : size f blocks - b ≡ suc m = omega arith in
       ap (λ (n : ℕ). lowerBlocks (loweringOf E f) (map (blockAt E f (allTrees E f)) (range b n))) k
       ∙ ap (λ (o : Option ℕ). lowerBlock (loweringOf E f) (record { block = B b; next = o }) ++ lowerBlocks (loweringOf E f) (map (blockAt E f (allTrees E f)) (range (b + 1) m)))
-      (next-is b m (omega arith))
+      (next-is E f b m (omega arith))
 
   blocks-none : (b : ℕ) → size f blocks ≤ b → blockLines E f b ≡ []
   unfolding blockLines lowerBlocks range

@@ -2,7 +2,7 @@
 use mathlib.Core.Path.{_≡_}
 use mathlib.Core.Bool.{true}
 use mathlib.Core.List.{List}
-use Prim.Native.Nat.{ℕ, _+_, _≤_, _<_}
+use Prim.Native.Nat.{ℕ, _+_, _<_}
 use lib.ListN.{length}
 use Rattle.definition.specs.Edition.{blocks}
 use Rattle.definition.specs.Contents.{size}
@@ -33,14 +33,12 @@ pub record Known (f : List ℕ) (t : ℕ) (P : Places) (numbers offs placed name
   pub flows : PhiReads f (length numbers) phi
   pub classed : Classed f t (length numbers) offs roots marks
 
--- statement i of a block that ends before statement `end`; its items begin at `item`, and pushes wait from statement `from` on
-pub record StmtAt (f : List ℕ) (block i end item from : ℕ) : Type 0 where
+-- statement i of a block that ends before statement `end`; its items begin at `item`
+pub record StmtAt (f : List ℕ) (block i end item : ℕ) : Type 0 where
   pub inside : block < size f blocks
-  pub start : firstStmt f block ≤ i
   pub before-end : i < end
   pub ends : end ≡ firstStmt f block + blockStmts f block
   pub first : item ≡ firstItem f i
-  pub waits : from ≤ i
 
 -- the walk stands at statement s
 pub record Stands (f : List ℕ) (s : ℕ) (w : Walk) : Type 0 where

@@ -50,7 +50,7 @@ pub fn stmt(
     setter: Found,
 ) -> Out
     requires { ⌜ Known (now f) t places (now numbers) (now offs) (now placed) (now names) (now live) (now phi) (now roots) (now marks) ⌝ }
-    requires { ⌜ StmtAt (now f) block i end item from ⌝ }
+    requires { ⌜ StmtAt (now f) block i end item ⌝ }
     requires { ⌜ Set (now f) t (firstStmt (now f) block) (blockStmts (now f) block) setter ⌝ }
     ensures { λ r. ⌜ ((E : Edition) (set : List ℕ) → textOf E ≡ t → count ≡ countSet set (read E (now (f .entry)) .args)
         → seenSheet (sheetOf (now (lines .exit)) (now (tokens .exit)) (now (text .exit)) r)

@@ -42,11 +42,21 @@ pub section : text edition1 ≡ 8
 unfolding text edition1
 section = refl
 
-module _ (f : List ℕ) (s : ℕ) (T U : Tables) (p : Filled f s T U) (n : ℕ) (e : n ≡ filledTo f s) where
-  -- u, which l has become, has a front, and is zeros without it
-  abbrev Front : List ℕ → List ℕ → Type 0
-  Front l u = (n ≤ length u) × (emptied n u ≡ zeros l)
+-- u, which l has become, has a front of n numbers, and is zeros without it
+abbrev Front : ℕ → List ℕ → List ℕ → Type 0
+Front n l u = (n ≤ length u) × (emptied n u ≡ zeros l)
 
+pub record Fronts (n : ℕ) (T U : Tables) : Type 0 where
+  pub numbers : Front n (T .numbers) (U .numbers)
+  pub offs : Front n (T .offs) (U .offs)
+  pub places : Front n (T .places) (U .places)
+  pub names : Front n (T .names) (U .names)
+  pub live : Front n (T .live) (U .live)
+  pub phi : Front n (T .phi) (U .phi)
+  pub roots : Front n (T .roots) (U .roots)
+  pub marks : Front n (T .marks) (U .marks)
+
+module _ (f : List ℕ) (s : ℕ) (T U : Tables) (p : Filled f s T U) (n : ℕ) (e : n ≡ filledTo f s) where
   -- t goes on with zeros behind the file's places
   abbrev Whole : List ℕ → Type 0
   Whole t = (length t ≡ most) × ((replicate (placesOf f .total) 0 ++ drop (placesOf f .total) t) ≡ replicate most 0)
@@ -67,11 +77,11 @@ module _ (f : List ℕ) (s : ℕ) (T U : Tables) (p : Filled f s T U) (n : ℕ) 
       let S = file-sound f T U (passed q) in
       (table-length f most g ∙ keyed-length f most (S .own) (S .few-places), table-emptied f (S .own) (placesOf f .total) most (omega arith) (S .few-places) g)
 
-  front : (l u t : List ℕ) → u ≡ given s l t → (s ≡ 0 → Whole t) → (s ≡ 0 → zeros l ≡ replicate most 0) → Front l u
+  front : (l u t : List ℕ) → u ≡ given s l t → (s ≡ 0 → Whole t) → (s ≡ 0 → zeros l ≡ replicate most 0) → Front n l u
   unfolding filledTo emptied given
   front l u t h w z = go (ℕ-discrete s 0)
     where
-      go : Dec (s ≡ 0) → Front l u
+      go : Dec (s ≡ 0) → Front n l u
       go (yes q) =
           let k : n ≡ placesOf f .total = rw (eq-eqb s 0 q) at e in
           let v : u ≡ t = rw (eq-eqb s 0 q) at h in
@@ -81,70 +91,30 @@ module _ (f : List ℕ) (s : ℕ) (T U : Tables) (p : Filled f s T U) (n : ℕ) 
           let v : u ≡ zeros l = rw (ne-eqb s 0 d) at h in
           (omega (arith, k), rw k v)
 
-  numbers-front : Front (T .numbers) (U .numbers)
-  unfolding cleared
-  numbers-front = front (T .numbers) (U .numbers) _ (p .tables .numbers) (λ q. numbered-whole q) (λ q. lent q .unvalued .no-numbers)
+  by-table : (l u : List ℕ) (g : Value → ℕ) → u ≡ given s l (table f most g) → (s ≡ 0 → zeros l ≡ replicate most 0) → Front n l u
+  by-table l u g h z = front l u (table f most g) h (λ q. table-whole q g) z
 
-  offs-front : Front (T .offs) (U .offs)
+  pub fronts : Fronts n T U
   unfolding cleared
-  offs-front = front (T .offs) (U .offs) _ (p .tables .offs edition1 section) (λ q. table-whole q _) (λ q. lent q .unvalued .no-offs)
-
-  places-front : Front (T .places) (U .places)
-  unfolding cleared
-  places-front = front (T .places) (U .places) _ (p .tables .places edition1) (λ q. table-whole q _) (λ q. lent q .unnamed .no-places)
-
-  names-front : Front (T .names) (U .names)
-  unfolding cleared
-  names-front = front (T .names) (U .names) _ (p .tables .names edition1) (λ q. table-whole q _) (λ q. lent q .unnamed .no-names)
-
-  live-front : Front (T .live) (U .live)
-  unfolding cleared
-  live-front = front (T .live) (U .live) _ (p .tables .live edition1) (λ q. table-whole q _) (λ q. lent q .unread .no-live)
-
-  phi-front : Front (T .phi) (U .phi)
-  unfolding cleared
-  phi-front = front (T .phi) (U .phi) _ (p .tables .phi edition1) (λ q. table-whole q _) (λ q. lent q .unread .no-phi)
-
-  roots-front : Front (T .roots) (U .roots)
-  unfolding cleared
-  roots-front = front (T .roots) (U .roots) _ (p .tables .roots edition1) (λ q. table-whole q _) (λ q. lent q .unnamed .no-roots)
-
-  marks-front : Front (T .marks) (U .marks)
-  unfolding cleared
-  marks-front = front (T .marks) (U .marks) _ (p .tables .marks edition1 section) (λ q. table-whole q _) (λ q. lent q .unmarked .no-marks)
+  fronts = record {
+    numbers = front (T .numbers) (U .numbers) _ (p .tables .numbers) (λ q. numbered-whole q) (λ q. lent q .unvalued .no-numbers);
+    offs = by-table (T .offs) (U .offs) _ (p .tables .offs edition1 section) (λ q. lent q .unvalued .no-offs);
+    places = by-table (T .places) (U .places) _ (p .tables .places edition1) (λ q. lent q .unnamed .no-places);
+    names = by-table (T .names) (U .names) _ (p .tables .names edition1) (λ q. lent q .unnamed .no-names);
+    live = by-table (T .live) (U .live) _ (p .tables .live edition1) (λ q. lent q .unread .no-live);
+    phi = by-table (T .phi) (U .phi) _ (p .tables .phi edition1) (λ q. lent q .unread .no-phi);
+    roots = by-table (T .roots) (U .roots) _ (p .tables .roots edition1) (λ q. lent q .unnamed .no-roots);
+    marks = by-table (T .marks) (U .marks) _ (p .tables .marks edition1 section) (λ q. lent q .unmarked .no-marks);
+  }
 
   pub reaches : Reach n (U .numbers) (U .offs) (U .places) (U .names) (U .live) (U .phi) (U .roots) (U .marks)
   reaches = record {
-    numbers = numbers-front .0;
-    offs = offs-front .0;
-    places = places-front .0;
-    names = names-front .0;
-    live = live-front .0;
-    phi = phi-front .0;
-    roots = roots-front .0;
-    marks = marks-front .0;
+    numbers = fronts .numbers .0;
+    offs = fronts .offs .0;
+    places = fronts .places .0;
+    names = fronts .names .0;
+    live = fronts .live .0;
+    phi = fronts .phi .0;
+    roots = fronts .roots .0;
+    marks = fronts .marks .0;
   }
-
-  pub numbers-gone : emptied n (U .numbers) ≡ zeros (T .numbers)
-  numbers-gone = numbers-front .1
-
-  pub offs-gone : emptied n (U .offs) ≡ zeros (T .offs)
-  offs-gone = offs-front .1
-
-  pub places-gone : emptied n (U .places) ≡ zeros (T .places)
-  places-gone = places-front .1
-
-  pub names-gone : emptied n (U .names) ≡ zeros (T .names)
-  names-gone = names-front .1
-
-  pub live-gone : emptied n (U .live) ≡ zeros (T .live)
-  live-gone = live-front .1
-
-  pub phi-gone : emptied n (U .phi) ≡ zeros (T .phi)
-  phi-gone = phi-front .1
-
-  pub roots-gone : emptied n (U .roots) ≡ zeros (T .roots)
-  roots-gone = roots-front .1
-
-  pub marks-gone : emptied n (U .marks) ≡ zeros (T .marks)
-  marks-gone = marks-front .1

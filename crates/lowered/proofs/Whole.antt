@@ -13,7 +13,7 @@ use Rattle.lent.specs.Lengths.{lentOf, lowFits}
 use Rattle.lowered.specs.Lowered.{lowOf, upTo8, firstOf, lowIn, LoweredIn}
 use Rattle.lowered.specs.Emptied.{filledTo, emptied}
 use Rattle.lowered.proofs.Refusing.{all-tests}
-use Rattle.lowered.proofs.Clearing.{numbers-gone, offs-gone, places-gone, names-gone, live-gone, phi-gone, roots-gone, marks-gone}
+use Rattle.lowered.proofs.Clearing.{fronts}
 
 module _ (f : List ℕ) (s : ℕ) (T U : Tables) (p : Filled f s T U) (i : ℕ) (filled : i ≡ filledTo f s) (numbers offs places names live phi roots marks labels : List ℕ) where
   all-gone : length (U .labels) ≡ length (T .labels)
@@ -22,20 +22,21 @@ module _ (f : List ℕ) (s : ℕ) (T U : Tables) (p : Filled f s T U) (i : ℕ) 
   unfolding cleared zeros
   all-gone w g =
       let H = p .tables in
+      let F = fronts f s T U p i filled in
       rw (
         H .keys,
-        g .0 ∙ numbers-gone f s T U p i filled,
+        g .0 ∙ F .numbers .1,
         H .spare,
-        g .1 ∙ offs-gone f s T U p i filled,
+        g .1 ∙ F .offs .1,
         H .order,
         H .starts,
         H .loads,
-        g .4 ∙ live-gone f s T U p i filled,
-        g .5 ∙ phi-gone f s T U p i filled,
-        g .6 ∙ roots-gone f s T U p i filled,
-        g .2 ∙ places-gone f s T U p i filled,
-        g .3 ∙ names-gone f s T U p i filled,
-        g .7 ∙ marks-gone f s T U p i filled,
+        g .4 ∙ F .live .1,
+        g .5 ∙ F .phi .1,
+        g .6 ∙ F .roots .1,
+        g .2 ∙ F .places .1,
+        g .3 ∙ F .names .1,
+        g .7 ∙ F .marks .1,
         zeros-of labels (length (U .labels)) (length (T .labels)) (sym w) (g .8),
       )
       refl

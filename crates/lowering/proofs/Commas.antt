@@ -8,11 +8,10 @@ use lib.Dec.{ltb}
 use lib.ListN.{take}
 use lib.Seq.{take-all}
 use borrow.Author.Tests.{lt-ltb, le-ltb, ltb-true, ltb-false}
-use Rattle.definition.specs.Edition.{Edition, statements}
+use Rattle.definition.specs.Edition.{Edition}
 use Rattle.definition.specs.Texts.{txt}
 use Rattle.definition.specs.Lists.{gather, range}
-use Rattle.definition.specs.Contents.{size, itemWord}
-use Rattle.definition.specs.Shape.{owned}
+use Rattle.definition.specs.Contents.{itemWord}
 use Rattle.definition.specs.Read.{treeAt, allTrees}
 use Rattle.definition.specs.Tokens.{Token, punct}
 use Rattle.definition.specs.Render.{e}
@@ -22,10 +21,8 @@ use Rattle.records.proofs.Editions.{length-range}
 use Rattle.records.proofs.Ranges.{shift, take-less, take-map}
 use Rattle.room.specs.Room.{Room, emit, emitAll, seen}
 use Rattle.room.proofs.Laws.{more, done, pieces-are}
-use Rattle.render.specs.Gens.{rendered}
 use Rattle.lowering.specs.Lowered.{loweringOf, exprOf}
 use Rattle.lowering.specs.Commas.{comma, argOf, argsOf, treesOf, listed, least}
-use Rattle.lowering.proofs.Gen.{rendered-is}
 
 -- ---- the sign between
 pub comma-put : (r₁ r : Room) (b : Bool) → b ≡ true → r₁ ≡ emit r (punct (txt ", ")) → r₁ ≡ emitAll r (comma b)
@@ -96,12 +93,6 @@ module _ (E : Edition) (f : List ℕ) where
   args-are (n ∷ ns) = ap (λ (l : List Token). e (loweringOf E f .gen) (treeAt (allTrees E f) n) ++ l) (rest-are ns)
 
   -- ---- one expression
-  pub put-arg : owned f ≡ true → (r r₁ r₀ : Room) (b : Bool) (n pos : ℕ) → r₁ ≡ emitAll r₀ (comma b) → pos ≡ size f statements
-      → seen r ≡ seen (emitAll r₁ (rendered E f pos true n)) → seen r ≡ seen (emitAll r₀ (argOf E f b n))
-  unfolding argOf
-  put-arg own r r₁ r₀ b n pos c p h =
-      more r r₁ r₀ (comma b) (exprOf E f n) (ap seen c) (pieces-are r r₁ (rendered E f pos true n) (exprOf E f n) h (rendered-is E f own pos n p))
-
   pub args-turn : (b : Bool) (n : ℕ) (ns : List ℕ) (r₁ r : Room) → seen r₁ ≡ seen (emitAll r (argOf E f b n))
       → seen (emitAll r (argsOf E f b (n ∷ ns))) ≡ seen (emitAll r₁ (argsOf E f true ns))
   unfolding argsOf

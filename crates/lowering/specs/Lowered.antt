@@ -22,11 +22,13 @@ loweringOf E f = lowering (read E f) (offsets (read E f))
 unfoldable pub exprOf : Edition → List ℕ → ℕ → List Token
 exprOf E f n = e (loweringOf E f .gen) (treeAt (allTrees E f) n)
 
--- statement i in the block H, which ends before statement `end`, with these pushes waiting and these registers set
+-- statement i
+abbrev pub stmtOf : Edition → List ℕ → ℕ → Stmt
+stmtOf E f i = stmtAt E f (allTrees E f) i
+
+-- and in the block H, which ends before statement `end`, with these pushes waiting and these registers set
 unfoldable pub lowered : Edition → List ℕ → Here → List Stmt → List ℕ → ℕ → ℕ → List Line
-lowered E f H pend set end i =
-    let s = stmtAt E f (allTrees E f) i in
-    lowerKind (loweringOf E f) H pend set s (behind E f end i) (s .kind)
+lowered E f H pend set end i = lowerKind (loweringOf E f) H pend set (stmtOf E f i) (behind E f end i) (stmtOf E f i .kind)
 
 -- block b, and the start of the next
 unfoldable pub hereAt : Edition → List ℕ → ℕ → Here

@@ -17,7 +17,7 @@ ghost use Rattle.definition.specs.Read.{treeAt, allTrees};
 ghost use Rattle.definition.specs.Lower.{commaList};
 ghost use Rattle.room.specs.Room.{roomOf, emitAll, seen};
 ghost use Rattle.render.specs.Told.{Told};
-ghost use Rattle.lowering.specs.Lowered.{loweringOf};
+ghost use Rattle.lowering.specs.Lowered.{loweringOf, exprOf};
 ghost use Rattle.lowering.specs.Commas.{comma, argOf, least};
 
 // The lesser of two numbers.
@@ -41,7 +41,43 @@ fn put_comma(tokens: &mut [u64], text: &mut [u8], out: Out, more: bool) -> Out
     out
 }
 
-// Expression n, behind others or as the first. All values written in place are open behind the last statement.
+// Expression n. Behind the last statement every value written in place is open.
+pub fn put_expr(
+    tokens: &mut [u64],
+    text: &mut [u8],
+    out: Out,
+    f: &[u8],
+    t: u32,
+    places: Places,
+    numbers: &[u32],
+    offs: &[u64],
+    placed: &[u32],
+    names: &[u32],
+    n: u32,
+) -> Out
+    requires { ⌜ Told (now f) t places (now numbers) (now offs) (now placed) (now names) ⌝ }
+    ensures { λ r. ⌜ ((E : Edition) → textOf E ≡ t → seen (roomOf (now (tokens .exit)) (now (text .exit)) r)
+        ≡ seen (emitAll (roomOf (now (tokens .entry)) (now (text .entry)) out) (exprOf E (now (f .entry)) n))) ⌝ }
+{
+    let pos = size_of(f, STATEMENTS);
+    expr(
+        tokens,
+        text,
+        out,
+        f,
+        t,
+        places,
+        numbers,
+        offs,
+        placed,
+        names,
+        pos,
+        n,
+        true,
+    )
+}
+
+// Behind others or as the first.
 pub fn put_arg(
     tokens: &mut [u64],
     text: &mut [u8],
@@ -60,9 +96,8 @@ pub fn put_arg(
     ensures { λ r. ⌜ ((E : Edition) → textOf E ≡ t → seen (roomOf (now (tokens .exit)) (now (text .exit)) r)
         ≡ seen (emitAll (roomOf (now (tokens .entry)) (now (text .entry)) out) (argOf E (now (f .entry)) more n))) ⌝ }
 {
-    let pos = size_of(f, STATEMENTS);
     let out = put_comma(tokens, text, out, more);
-    expr(
+    put_expr(
         tokens,
         text,
         out,
@@ -73,9 +108,7 @@ pub fn put_arg(
         offs,
         placed,
         names,
-        pos,
         n,
-        true,
     )
 }
 

@@ -3,11 +3,10 @@ use mathlib.Core.Path.{_≡_, refl, sym, ap, ap₂, _∙_}
 use mathlib.Core.Bool.{Bool, true, false, cond, _||_, or-assoc}
 use mathlib.Core.List.{List, [], _∷_, _++_, map}
 use Prim.Native.Nat.{ℕ, zero, suc, _+_, _-_, _≤_}
-use native.Mathlib.Decide.{ℕ-discrete}
 use native.Mathlib.Omega.{arith}
 use lib.Dec.{eqb}
 use lib.ListN.{length, replicate}
-use borrow.Author.Tests.{ne-eqb, lt-ltb, le-ltb}
+use borrow.Author.Tests.{lt-ltb, le-ltb}
 use Rattle.definition.specs.Edition.{Edition, blocks, statements}
 use Rattle.definition.specs.Lists.{any, among, distinct, gather, range}
 use Rattle.definition.specs.Contents.{size}
@@ -18,11 +17,12 @@ use Rattle.definition.specs.Ssa.{Expr, Stmt, Block, stmtsOf}
 use Rattle.definition.specs.Read.{allTrees, kindAt, stmtAt, blockAt, read}
 use Rattle.definition.specs.Lookup.{nextOf, optionList, targetOf, unlessNext, jumpsFrom}
 use Rattle.definition.specs.Listing.{padded}
+use Rattle.definition.proofs.Runs.{run-then}
 use Rattle.records.proofs.Ranges.{gather-map, gather-append, gather-same, map-map}
 use Rattle.records.proofs.Parts.{stmts-are}
 use Rattle.values.proofs.Ranges.{map-length}
 use Rattle.reads.specs.Counts.{visit}
-use Rattle.reads.proofs.Visits.{visit-append}
+use Rattle.reads.proofs.Codes.{by-code}
 use Rattle.marks.specs.Labels.{startAt, labelled, nextAt, takenAt, fallAt, edgesAt, targetAt, Labels}
 use Rattle.marks.proofs.Labelling.{map-same, marked-table}
 
@@ -45,19 +45,7 @@ module _ (E : Edition) (f : List ℕ) where
   -- ---- statements
   target-is : (t : List Expr) (i : ℕ) → targetOf (kindAt E f t i) ≡ targetAt f i
   unfolding targetOf kindAt targetAt
-  target-is t i =
-      go (ℕ-discrete (stmtKind f i) 1) (ℕ-discrete (stmtKind f i) 2) (ℕ-discrete (stmtKind f i) 3) (ℕ-discrete (stmtKind f i) 4) (ℕ-discrete (stmtKind f i) 5) (ℕ-discrete (stmtKind f i) 6)
-    where
-      go : Dec (stmtKind f i ≡ 1) → Dec (stmtKind f i ≡ 2) → Dec (stmtKind f i ≡ 3) → Dec (stmtKind f i ≡ 4) → Dec (stmtKind f i ≡ 5) → Dec (stmtKind f i ≡ 6)
-          → targetOf (kindAt E f t i) ≡ targetAt f i
-      go (yes e) b c d g h = rw e
-      go (no a) (yes e) c d g h = rw e
-      go (no a) (no b) (yes e) d g h = rw e
-      go (no a) (no b) (no c) (yes e) g h = rw e
-      go (no a) (no b) (no c) (no d) (yes e) h = rw e
-      go (no a) (no b) (no c) (no d) (no g) (yes e) = rw e
-      go (no a) (no b) (no c) (no d) (no g) (no h) =
-          rw (ne-eqb (stmtKind f i) 1 a, ne-eqb (stmtKind f i) 2 b, ne-eqb (stmtKind f i) 3 c, ne-eqb (stmtKind f i) 4 d, ne-eqb (stmtKind f i) 5 g, ne-eqb (stmtKind f i) 6 h)
+  target-is t i = by-code (stmtKind f i) (λ e. rw e) (λ e. rw e) (λ e. rw e) (λ e. rw e) (λ e. rw e) (λ e. rw e) (λ a b c d g h. rw (a, b, c, d, g, h))
 
   targets-are : owned f ≡ true → targets (stmtsOf (read E f)) ≡ gather (targetAt f) (range 0 (size f statements))
   unfolding stmtAt
@@ -67,7 +55,7 @@ module _ (E : Edition) (f : List ℕ) where
       ∙ gather-same (λ i. targetOf (kindAt E f (allTrees E f) i)) (targetAt f) (target-is (allTrees E f)) (range 0 (size f statements))
 
   -- ---- blocks
-  next-is : (b m : ℕ) → b + suc m ≡ size f blocks → nextOf (map B (range (b + 1) m)) ≡ nextAt f b
+  pub next-is : (b m : ℕ) → b + suc m ≡ size f blocks → nextOf (map B (range (b + 1) m)) ≡ nextAt f b
   unfolding nextOf nextAt range blockAt startAt
   next-is b zero e = rw (le-ltb (b + 1) (size f blocks) (omega arith))
   next-is b (suc m) e = rw (lt-ltb (b + 1) (size f blocks) (omega arith))
@@ -109,14 +97,14 @@ module _ (E : Edition) (f : List ℕ) where
 pub labels-are : (f t u v : List ℕ) → owned f ≡ true → distinct (starts f) ≡ true → t ≡ replicate (length t) 0 → size f blocks ≤ length t
     → u ≡ visit (labelled f) t (gather (edgesAt f) (range 0 (size f blocks))) → v ≡ visit (labelled f) u (gather (targetAt f) (range 0 (size f statements)))
     → Labels f (length t) v
-unfolding padded read blockAt startAt
+unfolding padded read blockAt startAt visit
 labels-are f t u v own once clear room p q E =
     let n = size f blocks in
     let es = gather (edgesAt f) (range 0 n) in
     let ts = gather (targetAt f) (range 0 (size f statements)) in
     let J = jumpsFrom (read E f .blocks) in
     let mark : ℕ → ℕ = λ i. cond (among (startAt f i) J) 1 0 in
-    q ∙ ap (λ (l : List ℕ). visit (labelled f) l ts) p ∙ sym (visit-append (labelled f) es ts t)
+    run-then (visit (labelled f)) (labelled f) (λ l. refl) (λ l x xs. refl) t u v es ts p q
     ∙ marked-table f once t (es ++ ts) clear room
     ∙ ap (λ (l : List ℕ). l ++ replicate (length t - n) 0) (map-same (λ i. cond (among (startAt f i) (es ++ ts)) 1 0) mark (λ i. ap (λ (b : Bool). cond b 1 0) (all-jumps E f own (startAt f i))) (range 0 n))
     ∙ ap (λ (m : ℕ). map mark (range 0 n) ++ replicate (length t - m) 0) (sym (map-length mark 0 n))

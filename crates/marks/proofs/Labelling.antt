@@ -14,9 +14,9 @@ use Rattle.definition.specs.Contents.{size, blockWord, blockLong, stmtLong}
 use Rattle.definition.specs.Owners.{stmtKind, stmtField}
 use Rattle.definition.specs.Meaning.{starts}
 use Rattle.definition.specs.Lookup.{optionList, isNext, unlessNext}
+use Rattle.definition.proofs.Runs.{run-then}
 use Rattle.definition.proofs.Bools.{by-test, both-true, both-false, eqb-swap}
 use Rattle.reads.specs.Counts.{visit}
-use Rattle.reads.proofs.Visits.{visit-append}
 use Rattle.marks.specs.Labels.{foundFrom, startAt, blockOf, labelled, nextAt, takenAt, fallAt, edgesAt, targetAt}
 use Rattle.marks.proofs.Finding.{found-high}
 
@@ -55,8 +55,8 @@ module _ (f t : List ℕ) where
     fall-there a r u e h p q s d = d ∙ rw (← e, eq-eqb w 1 h, ← p, sym q ∙ s)
 
   pub edges-then : (b : ℕ) (u v : List ℕ) → u ≡ visit (labelled f) t (takenAt f b) → v ≡ visit (labelled f) u (fallAt f b) → v ≡ visit (labelled f) t (edgesAt f b)
-  unfolding edgesAt
-  edges-then b u v p q = q ∙ ap (λ (l : List ℕ). visit (labelled f) l (fallAt f b)) p ∙ sym (visit-append (labelled f) (takenAt f b) (fallAt f b) t)
+  unfolding edgesAt visit
+  edges-then b u v = run-then (visit (labelled f)) (labelled f) (λ l. refl) (λ l x xs. refl) t u v (takenAt f b) (fallAt f b)
 
   module _ (i k : ℕ) (kind : k ≡ stmtKind f i) where
     pub target-other : (k ≡ 4 → ⊥) → t ≡ visit (labelled f) t (targetAt f i)

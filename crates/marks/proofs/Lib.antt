@@ -1,5 +1,4 @@
 pub mod Finding
-pub mod Visiting
 pub mod Labelling
 pub mod Jumping
 pub mod Saving

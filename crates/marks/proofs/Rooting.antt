@@ -35,8 +35,8 @@ use Rattle.reads.specs.Counts.{placed, visit, slots, between, Runs}
 use Rattle.reads.proofs.Trees.{Both, none-left, and-then, uses-are}
 use Rattle.reads.proofs.Nodes.{IsUse, each-gather, stmt-nodes}
 use Rattle.reads.proofs.Visits.{stmt-run}
-use Rattle.reads.proofs.Named.{Names, mark-all, uses-named}
-use Rattle.names.proofs.Mentioned.{Mentions, root-number}
+use Rattle.reads.proofs.Named.{StandsFor, mark-all, uses-named}
+use Rattle.names.proofs.Mentioned.{root-number}
 use Rattle.names.proofs.Rooted.{rooted}
 use Rattle.sums.specs.Ground.{Ground}
 use Rattle.marks.specs.Reading.{classed, reading, ReadRoots}
@@ -106,19 +106,16 @@ module _ (f : List ℕ) (bytes : (j : ℕ) → Fits w8 (getD f j 0)) (own : owne
   abbrev rootTable : List ℕ
   rootTable = table f n (λ v. numberOf (keyed f n) (keyOf (find (classes (read E f)) v)))
 
-  root-named : (s : ℕ) (v : Value) → Names f n s v → Names f n (at rootTable s) (find (classes (read E f)) v)
+  root-named : (s : ℕ) (v : Value) → StandsFor f n s v → StandsFor f n (at rootTable s) (find (classes (read E f)) v)
   root-named s v w =
-      let by : Mentions f n (w .spot) v = record { here = w .here; is = w .is; small = w .small } in
-      let to = rooted f bytes own n room E (w .spot) v by in
+      let to = rooted f bytes own n room E (w .spot) v (w .by) in
       record {
         spot = to .0;
-        here = to .1 .here;
-        is = to .1 .is;
-        small = to .1 .small;
-        number = ap (at rootTable) (w .number) ∙ root-number f n (find (classes (read E f))) (w .spot) (to .0) v by (to .1);
+        by = to .1;
+        number = ap (at rootTable) (w .number) ∙ root-number f n (find (classes (read E f))) (w .spot) (to .0) v (w .by) (to .1);
       }
 
-  roots-named : {ss : List ℕ} {vs : List Value} → Both (Names f n) ss vs → Both (Names f n) (map (at rootTable) ss) (map (find (classes (read E f))) vs)
+  roots-named : {ss : List ℕ} {vs : List Value} → Both (StandsFor f n) ss vs → Both (StandsFor f n) (map (at rootTable) ss) (map (find (classes (read E f))) vs)
   roots-named none-left = none-left
   roots-named (and-then {x = s} {y = v} w r) = and-then (root-named s v w) (roots-named r)
 

@@ -4,7 +4,6 @@ use mathlib.Core.Path.{_≡_, refl, sym, ap, _∙_}
 use mathlib.Core.Bool.{Bool, true, false, not, cond, _&&_, _||_}
 use mathlib.Core.List.{List, []}
 use Prim.Native.Nat.{ℕ, _≤_, _<_}
-use native.Mathlib.Decide.{ℕ-discrete}
 use lib.Dec.{eqb, ltb}
 use borrow.Author.Tests.{ltb-true, ltb-false, eq-eqb, ne-eqb, lt-ltb, le-ltb}
 use Rattle.definition.specs.Edition.{Edition, expressions}
@@ -19,6 +18,7 @@ use Rattle.definition.specs.Lower.{isSaved, saves}
 use Rattle.definition.specs.Blocks.{isSave}
 use Rattle.definition.proofs.Bools.{by-test}
 use Rattle.records.proofs.Trees.{tree-lower, tree-past}
+use Rattle.reads.proofs.Codes.{by-code}
 use Rattle.marks.specs.Reading.{savedUse, savedAt}
 
 -- ---- is an expression a callee-saved register's entry value
@@ -45,16 +45,7 @@ module _ (f : List ℕ) (n m : ℕ) (is : m ≡ size f expressions) where
 module _ (E : Edition) (f : List ℕ) where
   saved-node : (t : List Expr) (n : ℕ) → isSaved (tree E f t n) ≡ savedUse f n
   unfolding isSaved tree savedUse
-  saved-node t n = go (ℕ-discrete (exprWord f n 0) 1) (ℕ-discrete (exprWord f n 0) 2) (ℕ-discrete (exprWord f n 0) 3) (ℕ-discrete (exprWord f n 0) 4) (ℕ-discrete (exprWord f n 0) 5)
-    where
-      go : Dec (exprWord f n 0 ≡ 1) → Dec (exprWord f n 0 ≡ 2) → Dec (exprWord f n 0 ≡ 3) → Dec (exprWord f n 0 ≡ 4) → Dec (exprWord f n 0 ≡ 5) → isSaved (tree E f t n) ≡ savedUse f n
-      go (yes e) b c d g = rw e
-      go (no a) (yes e) c d g = rw e
-      go (no a) (no b) (yes e) d g = rw e
-      go (no a) (no b) (no c) (yes e) g = rw e
-      go (no a) (no b) (no c) (no d) (yes e) = rw e
-      go (no a) (no b) (no c) (no d) (no g) =
-          rw (ne-eqb (exprWord f n 0) 1 a, ne-eqb (exprWord f n 0) 2 b, ne-eqb (exprWord f n 0) 3 c, ne-eqb (exprWord f n 0) 4 d, ne-eqb (exprWord f n 0) 5 g)
+  saved-node t n = by-code (exprWord f n 0) (λ e. rw e) (λ e. rw e) (λ e. rw e) (λ e. rw e) (λ e. rw e) (λ e. rw e) (λ a b c d g h. rw (a, b, c, d, g))
 
   no-tree : isSaved (Opaque []) ≡ false
   unfolding isSaved
@@ -73,19 +64,9 @@ module _ (E : Edition) (f : List ℕ) where
       ≡ cond (eqb (stmtKind f i) 2) (savedAt f (stmtField f i 2) && not (eqb (stackOff k (treeAt (allTrees E f) (stmtField f i 1))) 0)) false
   unfolding isSave saves kindAt
   save-is k i =
-      go (ℕ-discrete (stmtKind f i) 1) (ℕ-discrete (stmtKind f i) 2) (ℕ-discrete (stmtKind f i) 3) (ℕ-discrete (stmtKind f i) 4) (ℕ-discrete (stmtKind f i) 5) (ℕ-discrete (stmtKind f i) 6)
-    where
-      go : Dec (stmtKind f i ≡ 1) → Dec (stmtKind f i ≡ 2) → Dec (stmtKind f i ≡ 3) → Dec (stmtKind f i ≡ 4) → Dec (stmtKind f i ≡ 5) → Dec (stmtKind f i ≡ 6)
-          → isSave k (kindAt E f (allTrees E f) i)
-          ≡ cond (eqb (stmtKind f i) 2) (savedAt f (stmtField f i 2) && not (eqb (stackOff k (treeAt (allTrees E f) (stmtField f i 1))) 0)) false
-      go (yes e) b c d g h = rw e
-      go (no a) (yes e) c d g h = rw e (ap (λ (b : Bool). b && not (eqb (stackOff k (treeAt (allTrees E f) (stmtField f i 1))) 0)) (saved-tree (stmtField f i 2)))
-      go (no a) (no b) (yes e) d g h = rw e
-      go (no a) (no b) (no c) (yes e) g h = rw e
-      go (no a) (no b) (no c) (no d) (yes e) h = rw e
-      go (no a) (no b) (no c) (no d) (no g) (yes e) = rw e
-      go (no a) (no b) (no c) (no d) (no g) (no h) =
-          rw (ne-eqb (stmtKind f i) 1 a, ne-eqb (stmtKind f i) 2 b, ne-eqb (stmtKind f i) 3 c, ne-eqb (stmtKind f i) 4 d, ne-eqb (stmtKind f i) 5 g, ne-eqb (stmtKind f i) 6 h)
+      by-code (stmtKind f i) (λ e. rw e)
+      (λ e. rw e (ap (λ (b : Bool). b && not (eqb (stackOff k (treeAt (allTrees E f) (stmtField f i 1))) 0)) (saved-tree (stmtField f i 2))))
+      (λ e. rw e) (λ e. rw e) (λ e. rw e) (λ e. rw e) (λ a b c d g h. rw (a, b, c, d, g, h))
 
   module _ (k : List Known) (i g : ℕ) (kind : g ≡ stmtKind f i) where
     pub save-other : (g ≡ 2 → ⊥) → false ≡ isSave k (kindAt E f (allTrees E f) i)

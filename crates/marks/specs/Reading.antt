@@ -11,12 +11,12 @@ use Rattle.definition.specs.Contents.{size, text, exprWord}
 use Rattle.definition.specs.Values.{within}
 use Rattle.definition.specs.Read.{kindAt, allTrees, marked, read}
 use Rattle.definition.specs.Offsets.{Known, look}
-use Rattle.definition.specs.Classes.{find, classes}
+use Rattle.definition.specs.Classes.{classes}
 use Rattle.definition.specs.Registers.{calleeSaved}
 use Rattle.definition.specs.Blocks.{isSave, readRoots}
-use Rattle.values.specs.Keys.{keyOf, keyed}
-use Rattle.values.specs.Tables.{at, numberOf, table}
+use Rattle.values.specs.Tables.{at, table}
 use Rattle.reads.specs.Uses.{stmtUses}
+use Rattle.names.specs.Given.{rootTable}
 
 -- expression n is a callee-saved register's entry value
 unfoldable pub savedUse : List ℕ → ℕ → Bool
@@ -36,5 +36,5 @@ reading E f k i = cond (marked f i 1 || isSave k (kindAt E f (allTrees E f) i)) 
 -- a table of n numbers, given the text's section, the stack offsets and the roots of classes
 abbrev pub ReadRoots : List ℕ → ℕ → ℕ → List ℕ → List ℕ → List ℕ → Type 0
 ReadRoots f t n offsets roots tab =
-    (E : Edition) (k : List Known) → text E ≡ t → offsets ≡ table f n (look k) → roots ≡ table f n (λ v. numberOf (keyed f n) (keyOf (find (classes (read E f)) v)))
+    (E : Edition) (k : List Known) → text E ≡ t → offsets ≡ table f n (look k) → roots ≡ rootTable E f n
     → tab ≡ table f n (λ v. cond (within v (readRoots (read E f) k (classes (read E f)))) 1 0)

@@ -3,13 +3,11 @@ use mathlib.Core.Path.{_≡_, refl, sym, ap, ap₂, _∙_}
 use mathlib.Core.Bool.{Bool, true, false, not, cond, _||_, or-false, or-assoc, true≢false, false≢true}
 use mathlib.Core.List.{List, [], _∷_, _++_, map, map-append}
 use Prim.Native.Nat.{ℕ, zero, suc, _+_, _<_}
-use native.Mathlib.Decide.{ℕ-discrete}
 use native.Mathlib.Omega.{arith}
 use lib.Dec.{eqb}
 use lib.ListN.{length, getD, replicate, length-append}
 use mir.Syntax.{w8}
 use mir.Val.{Fits}
-use borrow.Author.Tests.{ne-eqb}
 use Rattle.definition.specs.Edition.{Edition, args, statements}
 use Rattle.definition.specs.Lists.{any, only, gather, range}
 use Rattle.definition.specs.Contents.{size, argAt}
@@ -26,20 +24,21 @@ use Rattle.definition.proofs.ListLaws.{Each, end, _▸_}
 use Rattle.records.proofs.Ranges.{range-last, map-gather, gather-same}
 use Rattle.records.proofs.Parts.{stmts-are}
 use Rattle.values.specs.Tables.{at, numbered, table}
-use Rattle.values.proofs.Tables.{table-same, eqv-swap, zeros-are}
+use Rattle.values.proofs.Tables.{table-same, eqv-swap, zeros-are, table-read}
 use Rattle.values.proofs.Placed.{keyed-length}
 use Rattle.values.proofs.Ranges.{map-length}
+use Rattle.reads.proofs.Codes.{by-code}
 use Rattle.reads.proofs.ReadAtAll.{bit-so}
 use Rattle.names.specs.Codes.{coded}
 use Rattle.names.specs.Spots.{Spot, useSpots, entrySpots, ticked, upTo}
 use Rattle.names.specs.Given.{Numbered, EntryRead, entryTable}
-use Rattle.names.proofs.Mentioned.{Mentions, coded-read, coded-write, each-runs, arg-named, uses-right}
+use Rattle.names.proofs.Mentioned.{Right, coded-write, each-runs, arg-named, uses-right}
 use Rattle.names.proofs.Reading.{valuesOf, use-values}
 use Rattle.names.proofs.Params.{isRead}
 
 -- ---- what is ticked
 module _ (f : List ℕ) (n : ℕ) where
-  ticked-are : (xs : List Spot) → Each (λ (x : Spot). Mentions f n (x .place) (x .of)) xs → (g : Value → ℕ)
+  ticked-are : (xs : List Spot) → Each (Right f n) xs → (g : Value → ℕ)
       → ticked (numbered f n) (table f n g) xs ≡ table f n (λ w. cond (within w (valuesOf xs)) 1 (g w))
   unfolding ticked within any coded
   ticked-are [] end g = table-same f n g (λ w. g w) (λ w. refl)
@@ -59,19 +58,7 @@ module _ (f : List ℕ) (n : ℕ) where
 -- ---- what is read at entry
 convention : (E : Edition) (f : List ℕ) (t : List Expr) (i : ℕ) → byConvention (kindAt E f t i) ≡ (eqb (stmtKind f i) 3 || eqb (stmtKind f i) 4)
 unfolding byConvention kindAt
-convention E f t i =
-    go (ℕ-discrete (stmtKind f i) 1) (ℕ-discrete (stmtKind f i) 2) (ℕ-discrete (stmtKind f i) 3) (ℕ-discrete (stmtKind f i) 4) (ℕ-discrete (stmtKind f i) 5) (ℕ-discrete (stmtKind f i) 6)
-  where
-    go : Dec (stmtKind f i ≡ 1) → Dec (stmtKind f i ≡ 2) → Dec (stmtKind f i ≡ 3) → Dec (stmtKind f i ≡ 4) → Dec (stmtKind f i ≡ 5) → Dec (stmtKind f i ≡ 6)
-        → byConvention (kindAt E f t i) ≡ (eqb (stmtKind f i) 3 || eqb (stmtKind f i) 4)
-    go (yes e) b c d g h = rw e
-    go (no a) (yes e) c d g h = rw e
-    go (no a) (no b) (yes e) d g h = rw e
-    go (no a) (no b) (no c) (yes e) g h = rw e
-    go (no a) (no b) (no c) (no d) (yes e) h = rw e
-    go (no a) (no b) (no c) (no d) (no g) (yes e) = rw e
-    go (no a) (no b) (no c) (no d) (no g) (no h) =
-        rw (ne-eqb (stmtKind f i) 1 a, ne-eqb (stmtKind f i) 2 b, ne-eqb (stmtKind f i) 3 c, ne-eqb (stmtKind f i) 4 d, ne-eqb (stmtKind f i) 5 g, ne-eqb (stmtKind f i) 6 h)
+convention E f t i = by-code (stmtKind f i) (λ e. rw e) (λ e. rw e) (λ e. rw e) (λ e. rw e) (λ e. rw e) (λ e. rw e) (λ a b c d g h. rw (a, b, c, d, g, h))
 
 -- two tests, one behind the other
 gather-twice : {A : Type 0} {B : Type 0} {C : Type 0} (g : B → List C) (p q : B → Bool) (h : A → B) (xs : List A)
@@ -156,7 +143,7 @@ module _ (f : List ℕ) (bytes : (k : ℕ) → Fits w8 (getD f k 0)) (ns : List 
       let q : ℕ → Bool = (λ a. any (eqv (value a 0)) (entryReads (read E f))) in
       up-same (isRead ns es) (λ j. q (argAt f j)) (size f args)
       (λ j h. ap₂ (λ (t u : List ℕ). not (eqb (at t (at u j)) 0)) e (given .are)
-      ∙ ap (λ (x : ℕ). not (eqb x 0)) (coded-read f n j (value (argAt f j) 0) (arg-named f bytes (given .own) n (given .room) j h) (λ v. cond (any (eqv v) (entryReads (read E f))) 1 0))
+      ∙ ap (λ (x : ℕ). not (eqb x 0)) (table-read f n (λ v. cond (any (eqv v) (entryReads (read E f))) 1 0) j (value (argAt f j) 0) (arg-named f bytes (given .own) n (given .room) j h))
       ∙ bit-so (q (argAt f j)))
       ∙ sym (count-is q (argAt f) (size f args))
 
@@ -168,8 +155,8 @@ module _ (f : List ℕ) (bytes : (k : ℕ) → Fits w8 (getD f k 0)) (ns : List 
         e ∙ ap₂ (λ (u s : List ℕ). ticked u s (gather (entrySpots f) (range 0 (size f statements)))) (given .are)
         (z ∙ zeros-are f (length ns) (keyed-length f (length ns) (given .own) (given .room)))
         ∙ ticked-are f (length ns) (gather (entrySpots f) (range 0 (size f statements)))
-        (each-runs (λ (x : Spot). Mentions f (length ns) (x .place) (x .of)) (entrySpots f) 0 (size f statements)
-        (λ i h. by-cond (Each (λ (x : Spot). Mentions f (length ns) (x .place) (x .of))) (marked f i 1 || (eqb (stmtKind f i) 3 || eqb (stmtKind f i) 4)) (λ b. end)
+        (each-runs (Right f (length ns)) (entrySpots f) 0 (size f statements)
+        (λ i h. by-cond (Each (Right f (length ns))) (marked f i 1 || (eqb (stmtKind f i) 3 || eqb (stmtKind f i) 4)) (λ b. end)
         (λ b. uses-right f bytes (given .own) (length ns) (given .room) i)))
         (λ v. 0)
         ∙ ap (λ (vs : List Value). table f (length ns) (λ w. cond (within w vs) 1 0)) (entry-values f (given .own) E);

@@ -5,7 +5,7 @@ use mathlib.Core.Bool.{true, cond}
 use mathlib.Core.List.{List, map}
 use Prim.Native.Nat.{ℕ, zero, suc, _+_, _≤_, _<_}
 use native.Mathlib.Omega.{arith}
-use lib.ListN.{length, getD, set}
+use lib.ListN.{getD, set}
 use mir.Syntax.{w8}
 use mir.Val.{Fits}
 use Rattle.words.proofs.Laws.{word-small}
@@ -19,35 +19,27 @@ use Rattle.definition.specs.Meaning.{phiValue}
 use Rattle.definition.proofs.ListLaws.{Each, end, _▸_, each-append}
 use Rattle.values.specs.Keys.{keyOf, argKey, phiKey, inputKey, exprKey, placesOf, keyed}
 use Rattle.values.specs.Tables.{at, numberOf, numbered, table}
-use Rattle.values.proofs.Tables.{numbered-at, table-same, table-read, table-write}
+use Rattle.values.proofs.Tables.{numbered-at, table-same, table-read, table-write, Names}
 use Rattle.values.proofs.Placed.{at-arg, at-phi, at-input, at-expr, keyed-length, arg-here, phi-here, input-here, expr-here}
 use Rattle.reads.specs.Uses.{useValue}
 use Rattle.reads.proofs.Nodes.{IsUse, stmt-nodes}
 use Rattle.names.specs.Codes.{coded}
 use Rattle.names.specs.Spots.{Spot, spot, useSpot, useSpots}
 
--- place p names v
-pub record Mentions (f : List ℕ) (n p : ℕ) (v : Value) : Type 0 where
-  pub here : p < length (keyed f n)
-  pub is : at (keyed f n) p ≡ keyOf v
-  pub small : v .ver < 4294967296
-
--- ---- tables at a place
-module _ (f : List ℕ) (n p : ℕ) (v : Value) (by : Mentions f n p v) where
-  pub coded-read : (g : Value → ℕ) → at (table f n g) (at (numbered f n) p) ≡ g v
-  coded-read g = table-read f n g p (v .reg) (v .ver) (by .here) (by .is) (by .small)
-
-  pub coded-write : (g : Value → ℕ) (x : ℕ) → set (table f n g) (at (numbered f n) p) x ≡ table f n (coded v x g)
-  unfolding coded
-  coded-write g x =
-      table-write f n g p (v .reg) (v .ver) (by .here) (by .is) (by .small) x
-      ∙ table-same f n (λ w. cond (eqv v w) x (g w)) (coded v x g) (λ w. refl)
+-- a table is written at a place
+pub coded-write : (f : List ℕ) (n p : ℕ) (v : Value) → Names f n p v → (g : Value → ℕ) (x : ℕ) → set (table f n g) (at (numbered f n) p) x ≡ table f n (coded v x g)
+unfolding coded
+coded-write f n p v by g x = table-write f n g p v by x ∙ table-same f n (λ w. cond (eqv v w) x (g w)) (coded v x g) (λ w. refl)
 
 -- the number of a class's root
-pub root-number : (f : List ℕ) (n : ℕ) (root : Value → Value) (p q : ℕ) (v : Value) → Mentions f n p v → Mentions f n q (root v)
+pub root-number : (f : List ℕ) (n : ℕ) (root : Value → Value) (p q : ℕ) (v : Value) → Names f n p v → Names f n q (root v)
     → at (table f n (λ w. numberOf (keyed f n) (keyOf (root w)))) (at (numbered f n) p) ≡ at (numbered f n) q
 root-number f n root p q v by to =
-    coded-read f n p v by (λ w. numberOf (keyed f n) (keyOf (root w))) ∙ sym (numbered-at f n q (to .here) ∙ ap (numberOf (keyed f n)) (to .is))
+    table-read f n (λ w. numberOf (keyed f n) (keyOf (root w))) p v by ∙ sym (numbered-at f n q (to .here) ∙ ap (numberOf (keyed f n)) (to .is))
+
+-- a spot whose place names its value
+abbrev pub Right : List ℕ → ℕ → Spot → Type 0
+Right f n x = Names f n (x .place) (x .of)
 
 -- ---- every element of a run
 module _ {A : Type 0} (P : A → Type 0) where
@@ -69,37 +61,26 @@ module _ {A : Type 0} (P : A → Type 0) where
 
 -- ---- places that name values
 module _ (f : List ℕ) (bytes : (k : ℕ) → Fits w8 (getD f k 0)) (own : owned f ≡ true) (n : ℕ) (room : placesOf f .total ≤ n) where
-  pub inside : (p : ℕ) → p < placesOf f .total → p < length (keyed f n)
-  inside p h = omega (arith, keyed-length f n own room)
+  pub named-at : (p : ℕ) (v : Value) → p < placesOf f .total → at (keyed f n) p ≡ keyOf v → v .ver < 4294967296 → Names f n p v
+  named-at p v h e k = record { here = omega (arith, keyed-length f n own room); is = e; small = k }
 
-  pub arg-named : (i : ℕ) → i < size f args → Mentions f n i (value (argAt f i) 0)
+  pub arg-named : (i : ℕ) → i < size f args → Names f n i (value (argAt f i) 0)
   unfolding argKey
-  arg-named i h = record { here = inside i (arg-here f i h); is = at-arg f n i h; small = omega arith }
+  arg-named i h = named-at _ _ (arg-here f i h) (at-arg f n i h) (omega arith)
 
-  pub phi-named : (i : ℕ) → i < size f phis → Mentions f n (placesOf f .phis + i) (phiValue f i)
+  pub phi-named : (i : ℕ) → i < size f phis → Names f n (placesOf f .phis + i) (phiValue f i)
   unfolding phiKey phiValue
-  phi-named i h = record { here = inside (placesOf f .phis + i) (phi-here f i h); is = at-phi f n i h; small = word-small f bytes (place f phis phiWords i 1) }
+  phi-named i h = named-at _ _ (phi-here f i h) (at-phi f n i h) (word-small f bytes (place f phis phiWords i 1))
 
-  pub input-named : (i j : ℕ) → i < size f phis → j < phiInputs f i → Mentions f n (placesOf f .inputs + (firstInput f i + j)) (value (phiWord f i 0) (inputAt f (firstInput f i + j)))
+  pub input-named : (i j : ℕ) → i < size f phis → j < phiInputs f i → Names f n (placesOf f .inputs + (firstInput f i + j)) (value (phiWord f i 0) (inputAt f (firstInput f i + j)))
   unfolding inputKey
-  input-named i j h k = record {
-    here = inside (placesOf f .inputs + (firstInput f i + j)) (input-here f own i j h k);
-    is = at-input f n i j h k;
-    small = word-small f bytes (place f inputs inputWords (firstInput f i + j) 0);
-  }
+  input-named i j h k = named-at _ _ (input-here f own i j h k) (at-input f n i j h k) (word-small f bytes (place f inputs inputWords (firstInput f i + j) 0))
 
-  use-named : (m : ℕ) → IsUse f m → Mentions f n (placesOf f .exprs + m) (useValue f m)
+  use-named : (m : ℕ) → IsUse f m → Names f n (placesOf f .exprs + m) (useValue f m)
   unfolding exprKey useValue
-  use-named m u = record {
-    here = inside (placesOf f .exprs + m) (expr-here f m (u .1));
-    is = at-expr f n own m (u .1) ∙ rw (u .0);
-    small = word-small f bytes (place f expressions exprWords m 2);
-  }
+  use-named m u = named-at _ _ (expr-here f m (u .1)) (at-expr f n own m (u .1) ∙ rw (u .0)) (word-small f bytes (place f expressions exprWords m 2))
 
   -- ---- each spot that is read
-  abbrev Right : Spot → Type 0
-  Right x = Mentions f n (x .place) (x .of)
-
-  pub uses-right : (i : ℕ) → Each Right (useSpots f i)
+  pub uses-right : (i : ℕ) → Each (Right f n) (useSpots f i)
   unfolding useSpots useSpot
-  uses-right i = each-from Right (λ (m : ℕ). spot (placesOf f .exprs + m) (useValue f m)) use-named (stmt-nodes f i)
+  uses-right i = each-from (Right f n) (λ (m : ℕ). spot (placesOf f .exprs + m) (useValue f m)) use-named (stmt-nodes f i)

@@ -23,7 +23,8 @@ use Rattle.definition.proofs.ListLaws.{Each, end, _▸_, each-map}
 use Rattle.records.proofs.Ranges.{gather-only, map-map}
 use Rattle.records.proofs.Parts.{phis-are}
 use Rattle.values.specs.Keys.{placesOf}
-use Rattle.names.proofs.Mentioned.{Mentions, each-run, each-runs, phi-named, input-named}
+use Rattle.values.proofs.Tables.{Names}
+use Rattle.names.proofs.Mentioned.{each-run, each-runs, phi-named, input-named}
 
 -- ---- a property of the values joined
 module _ (P : Value → Type 0) where
@@ -59,7 +60,7 @@ module _ (P : Value → Type 0) where
 -- ---- the file's
 module _ (f : List ℕ) (bytes : (k : ℕ) → Fits w8 (getD f k 0)) (own : owned f ≡ true) (n : ℕ) (room : placesOf f .total ≤ n) where
   abbrev Somewhere : Value → Type 0
-  Somewhere v = (q : ℕ) × Mentions f n q v
+  Somewhere v = (q : ℕ) × Names f n q v
 
   pairs-in : (i : ℕ) → i < size f phis → Joined Somewhere (pairs (phiAt f i))
   unfolding pairs phiAt phiValue
@@ -75,7 +76,7 @@ module _ (f : List ℕ) (bytes : (k : ℕ) → Fits w8 (getD f k 0)) (own : owne
       (each-runs (λ (p : Pair). Somewhere (p .left) × Somewhere (p .right)) (λ (i : ℕ). cond (not (eqb (phiAt f i .var) RSP)) (pairs (phiAt f i)) []) 0 (size f phis)
       (λ i h. by-cond (Joined Somewhere) (not (eqb (phiAt f i .var) RSP)) (λ e. pairs-in i (omega arith)) (λ e. end)))
 
-  pub rooted : (E : Edition) (p : ℕ) (v : Value) → Mentions f n p v → (q : ℕ) × Mentions f n q (find (classes (read E f)) v)
+  pub rooted : (E : Edition) (p : ℕ) (v : Value) → Names f n p v → (q : ℕ) × Names f n q (find (classes (read E f)) v)
   unfolding classes
   rooted E p v by =
       let ps = all-pairs E in

@@ -1,26 +1,20 @@
--- Values that are really read at entry are ticked one behind the other; the loops, and what the returns come to.
+-- Values that are really read at entry are ticked one behind the other: the nodes of a statement, and what the returns come to.
 use mathlib.Core.Path.{_≡_, refl, sym, _∙_}
 use mathlib.Core.Bool.{Bool, true, false, _||_}
-use mathlib.Core.List.{List, [], _∷_, _++_, map}
-use Prim.Native.Nat.{ℕ, suc, _+_, _-_, _≤_, _<_}
-use native.Mathlib.Omega.{arith}
+use mathlib.Core.List.{List, [], _∷_, map}
+use Prim.Native.Nat.{ℕ, _+_, _-_}
 use lib.Dec.{eqb}
 use lib.ListN.{set}
 use borrow.Author.Tests.{eq-eqb, ne-eqb}
-use Rattle.definition.specs.Lists.{gather, range}
+use Rattle.definition.specs.Lists.{range}
 use Rattle.definition.specs.Owners.{stmtKind}
 use Rattle.definition.specs.Read.{marked}
 use Rattle.values.specs.Keys.{placesOf}
 use Rattle.values.specs.Tables.{at}
 use Rattle.reads.specs.Counts.{placed, visit, slots, between}
-use Rattle.names.specs.Spots.{Spot, useSpot, useSpots, entrySpots, ticked}
+use Rattle.names.specs.Spots.{useSpot, useSpots, entrySpots, ticked}
 
 module _ (ns : List ℕ) where
-  tick-append : (t : List ℕ) (xs ys : List Spot) → ticked ns t (xs ++ ys) ≡ ticked ns (ticked ns t xs) ys
-  unfolding ticked
-  tick-append t [] ys = refl
-  tick-append t (x ∷ xs) ys = tick-append (set t (at ns (x .place)) 1) xs ys
-
   -- ---- the nodes of a statement: what is placed at their numbers
   module _ (f order : List ℕ) where
     placed-are : (ks t : List ℕ) → visit (placed 1) t (slots ns (placesOf f .exprs) (map (at order) ks)) ≡ ticked ns t (map (λ j. useSpot f (at order j)) ks)
@@ -32,20 +26,6 @@ module _ (ns : List ℕ) where
         → visit (placed 1) t (slots ns from (between order a b)) ≡ ticked ns t (map (λ j. useSpot f (at order j)) (range a (b - a)))
     unfolding between
     tick-run t from a b e = rw e (placed-are (range a (b - a)) t)
-
-  -- ---- statements, from i up to n
-  pub stmts-start : (g : ℕ → List Spot) (t : List ℕ) (n m : ℕ) → n ≡ m → ticked ns t (gather g (range 0 m)) ≡ ticked ns t (gather g (range 0 (n - 0)))
-  stmts-start g t n m e = let k : n - 0 ≡ m = omega arith in rw k
-
-  pub stmts-turn : (g : ℕ → List Spot) (t t′ : List ℕ) (i n : ℕ) → i < n → t′ ≡ ticked ns t (g i) → ticked ns t (gather g (range i (n - i))) ≡ ticked ns t′ (gather g (range (i + 1) (n - (i + 1))))
-  unfolding gather range
-  stmts-turn g t t′ i n h e =
-      let p : n - i ≡ suc (n - (i + 1)) = omega arith in
-      rw (p, e) (tick-append t (g i) (gather g (range (i + 1) (n - (i + 1)))))
-
-  pub stmts-end : (g : ℕ → List Spot) (t r : List ℕ) (i n : ℕ) → n ≤ i → r ≡ ticked ns t (gather g (range i (n - i))) → t ≡ r
-  unfolding ticked range gather
-  stmts-end g t r i n h e = let p : n - i ≡ 0 = omega arith in sym (e ∙ rw p)
 
   -- ---- one statement
   module _ (f t : List ℕ) (i : ℕ) (d : Bool) (is : d ≡ (marked f i 1 || (eqb (stmtKind f i) 3 || eqb (stmtKind f i) 4))) where

@@ -18,14 +18,14 @@ use Rattle.definition.specs.Inline.{readsOf, inline, inPlace}
 use Rattle.definition.specs.Names.{params, blockKeys}
 use Rattle.values.specs.Keys.{keyOf, keyed}
 use Rattle.values.specs.Tables.{numberOf, numbered, table}
-use Rattle.values.proofs.Tables.{table-same, zeros-are}
+use Rattle.values.proofs.Tables.{table-same, zeros-are, Names}
 use Rattle.values.proofs.Placed.{keyed-length}
 use Rattle.names.specs.Codes.{coded, paramCodes, codeKeys, codeStart, nameCode}
 use Rattle.names.specs.Spots.{State, known, state}
 use Rattle.naming.specs.Walk.{walked, spots, paramsSeen}
 use Rattle.names.specs.Given.{Numbered, Counted}
 use Rattle.naming.specs.Given.{Told, NamesAll}
-use Rattle.names.proofs.Mentioned.{Mentions, coded-write, root-number, arg-named}
+use Rattle.names.proofs.Mentioned.{coded-write, root-number, arg-named}
 use Rattle.naming.proofs.Tied.{Tied, walk-tied}
 use Rattle.naming.proofs.Spots.{all-values}
 use Rattle.naming.proofs.Mentioned.{all-right}
@@ -33,7 +33,7 @@ use Rattle.names.proofs.Rooted.{rooted}
 use Rattle.names.proofs.Entered.{params-first}
 
 -- ---- the parameters' classes
-module _ (f : List ℕ) (n : ℕ) (root : Value → Value) (to : (p : ℕ) (v : Value) → Mentions f n p v → (q : ℕ) × Mentions f n q (root v)) (by : (i : ℕ) → i < size f args → Mentions f n i (value (argAt f i) 0)) where
+module _ (f : List ℕ) (n : ℕ) (root : Value → Value) (to : (p : ℕ) (v : Value) → Names f n p v → (q : ℕ) × Names f n q (root v)) (by : (i : ℕ) → i < size f args → Names f n i (value (argAt f i) 0)) where
   abbrev rootTable : List ℕ
   rootTable = table f n (λ v. numberOf (keyed f n) (keyOf (root v)))
 

@@ -4,10 +4,8 @@ use mathlib.Core.Bool.{Bool, true, false, not, cond, _&&_}
 use mathlib.Core.Option.{none, some}
 use mathlib.Core.List.{List, [], _∷_, _++_, map, map-append, append-assoc}
 use Prim.Native.Nat.{ℕ, _+_}
-use native.Mathlib.Decide.{ℕ-discrete}
 use native.Mathlib.Omega.{arith}
 use lib.Dec.{eqb}
-use borrow.Author.Tests.{ne-eqb}
 use Rattle.definition.specs.Edition.{Edition, blocks}
 use Rattle.definition.specs.Lists.{gather, range}
 use Rattle.definition.specs.Contents.{size, phiWord, inputAt, itemWord}
@@ -22,6 +20,7 @@ use Rattle.definition.proofs.Bools.{by-test}
 use Rattle.records.proofs.Ranges.{gather-map, map-gather, gather-only, shift, gather-same, map-map}
 use Rattle.defined.specs.Defined.{itemValue}
 use Rattle.values.specs.Keys.{placesOf}
+use Rattle.reads.proofs.Codes.{by-code}
 use Rattle.names.specs.Spots.{Spot, spot, useSpots}
 use Rattle.names.proofs.Reading.{valuesOf, use-values}
 use Rattle.naming.specs.Walk.{inputSpot, phiSpots, fieldSpots, itemSpot, itemSpots, stmtSpots, blockSpots, spots}
@@ -62,7 +61,9 @@ module _ (f : List ℕ) where
   defs-are : (E : Edition) (t : List Expr) (i : ℕ) → (assigned f i ++ callReturns f i) ++ itemValues f i ≡ defs (kindAt E f t i)
   unfolding assigned callReturns kindAt defs valueOr valueItems
   defs-are E t i =
-      go (ℕ-discrete (stmtKind f i) 1) (ℕ-discrete (stmtKind f i) 2) (ℕ-discrete (stmtKind f i) 3) (ℕ-discrete (stmtKind f i) 4) (ℕ-discrete (stmtKind f i) 5) (ℕ-discrete (stmtKind f i) 6)
+      by-code (stmtKind f i) (λ e. rw (no-items i (none-of 1 e refl refl), e)) (λ e. rw (no-items i (none-of 2 e refl refl), e))
+      (λ e. rw e (returned (eqb (stmtField f i 3) 1) (value (stmtField f i 4) (stmtField f i 5)) (itemValues f i))) (λ e. rw (no-items i (none-of 4 e refl refl), e))
+      (λ e. rw (no-items i (none-of 5 e refl refl), e)) (λ e. rw (no-items i (none-of 6 e refl refl), e)) (λ a b c d g h. rw (a, b, c, d, g, h))
     where
       returned : (b : Bool) (v : Value) (vs : List Value) → (cond b (v ∷ []) []) ++ vs ≡ valueOr (cond b (some v) none) vs
       returned true v vs = refl
@@ -70,17 +71,6 @@ module _ (f : List ℕ) where
 
       none-of : (k : ℕ) → stmtKind f i ≡ k → eqb k 3 ≡ false → eqb k 7 ≡ false → valueItems f i ≡ 0
       none-of k e p q = rw (e, p, q)
-
-      go : Dec (stmtKind f i ≡ 1) → Dec (stmtKind f i ≡ 2) → Dec (stmtKind f i ≡ 3) → Dec (stmtKind f i ≡ 4) → Dec (stmtKind f i ≡ 5) → Dec (stmtKind f i ≡ 6)
-          → (assigned f i ++ callReturns f i) ++ itemValues f i ≡ defs (kindAt E f t i)
-      go (yes e) b c d g h = rw (no-items i (none-of 1 e refl refl), e)
-      go (no a) (yes e) c d g h = rw (no-items i (none-of 2 e refl refl), e)
-      go (no a) (no b) (yes e) d g h = rw e (returned (eqb (stmtField f i 3) 1) (value (stmtField f i 4) (stmtField f i 5)) (itemValues f i))
-      go (no a) (no b) (no c) (yes e) g h = rw (no-items i (none-of 4 e refl refl), e)
-      go (no a) (no b) (no c) (no d) (yes e) h = rw (no-items i (none-of 5 e refl refl), e)
-      go (no a) (no b) (no c) (no d) (no g) (yes e) = rw (no-items i (none-of 6 e refl refl), e)
-      go (no a) (no b) (no c) (no d) (no g) (no h) =
-          rw (ne-eqb (stmtKind f i) 1 a, ne-eqb (stmtKind f i) 2 b, ne-eqb (stmtKind f i) 3 c, ne-eqb (stmtKind f i) 4 d, ne-eqb (stmtKind f i) 5 g, ne-eqb (stmtKind f i) 6 h)
 
   stmt-values : (E : Edition) (i : ℕ) → valuesOf (stmtSpots f i)
       ≡ cond (not (marked f i 1)) (defs (kindAt E f (allTrees E f) i) ++ uses (kindAt E f (allTrees E f) i)) []

@@ -14,10 +14,10 @@ use Rattle.definition.proofs.Bools.{by-test, both-false}
 use Rattle.definition.proofs.ListLaws.{Each, end, _▸_, count-length}
 use Rattle.values.specs.Keys.{keyOf, keyed}
 use Rattle.values.specs.Tables.{at, numberOf, numbered, table}
-use Rattle.values.proofs.Tables.{key-not-0, decode, eqv-keys, same-numbered, numbered-below, table-length}
+use Rattle.values.proofs.Tables.{key-not-0, decode, eqv-keys, same-numbered, numbered-below, table-length, table-read, Names}
 use Rattle.names.specs.Codes.{coded, Coding, coding, meetCode, codeKey, codeKeys}
 use Rattle.names.specs.Spots.{Spot, Known, State, known, noted, met, named}
-use Rattle.names.proofs.Mentioned.{Mentions, coded-read, coded-write, root-number}
+use Rattle.names.proofs.Mentioned.{Right, coded-write, root-number}
 use Rattle.naming.specs.Walk.{walked}
 
 -- ---- how many entries there are
@@ -33,10 +33,10 @@ filled-set (y ∷ l) (suc i) x h e k =
     by-test (not (eqb y 0)) (λ t. rw (t, r)) (λ t. rw (t, r))
 
 -- equal numbers, equal values
-named-not-0 : (f : List ℕ) (n p : ℕ) (v : Value) → Mentions f n p v → at (keyed f n) p ≡ 0 → ⊥
+named-not-0 : (f : List ℕ) (n p : ℕ) (v : Value) → Names f n p v → at (keyed f n) p ≡ 0 → ⊥
 named-not-0 f n p v by e = key-not-0 v (sym (by .is) ∙ e)
 
-same-values : (f : List ℕ) (n p q : ℕ) (v w : Value) → Mentions f n p v → Mentions f n q w → eqb (at (numbered f n) p) (at (numbered f n) q) ≡ eqv v w
+same-values : (f : List ℕ) (n p q : ℕ) (v w : Value) → Names f n p v → Names f n q w → eqb (at (numbered f n) p) (at (numbered f n) q) ≡ eqv v w
 same-values f n p q v w a b =
     same-numbered f n p q (a .here) (b .here) (named-not-0 f n p v a) (named-not-0 f n q w b)
     ∙ ap₂ (λ (x y : ℕ). eqb x y) (a .is) (b .is)
@@ -50,12 +50,12 @@ pub record Tied (f : List ℕ) (n : ℕ) (S : State) (C : Coding) : Type 0 where
   pub few : S .next ≤ suc (filled (S .names))
 
 module _ (f : List ℕ) (n : ℕ) (room : length (keyed f n) < 2147483648) (root : Value → Value) (places : Value → ℕ) (away : Value → Bool)
-    (is-away : (v : Value) → away v ≡ not (eqb (places v) 0)) (rooted : (p : ℕ) (v : Value) → Mentions f n p v → (q : ℕ) × Mentions f n q (root v)) where
+    (is-away : (v : Value) → away v ≡ not (eqb (places v) 0)) (rooted : (p : ℕ) (v : Value) → Names f n p v → (q : ℕ) × Names f n q (root v)) where
   abbrev told : Known
   told = known (numbered f n) (table f n (λ v. numberOf (keyed f n) (keyOf (root v)))) (table f n places)
 
   -- ---- a value that has no name yet
-  module _ (S : State) (C : Coding) (T : Tied f n S C) (p q : ℕ) (v : Value) (by : Mentions f n p v) (to : Mentions f n q (root v)) (new : C .names v ≡ 0) where
+  module _ (S : State) (C : Coding) (T : Tied f n S C) (p q : ℕ) (v : Value) (by : Names f n p v) (to : Names f n q (root v)) (new : C .names v ≡ 0) where
     abbrev N : ℕ
     N = at (numbered f n) p
 
@@ -63,13 +63,13 @@ module _ (f : List ℕ) (n : ℕ) (room : length (keyed f n) < 2147483648) (root
     R = at (numbered f n) q
 
     is-new : at (S .names) N ≡ 0
-    is-new = ap (λ (l : List ℕ). at l N) (T .names) ∙ coded-read f n p v by (C .names) ∙ new
+    is-new = ap (λ (l : List ℕ). at l N) (T .names) ∙ table-read f n (C .names) p v by ∙ new
 
     inside : N < length (S .names)
     inside = omega (arith, numbered-below f n p (by .here), ap length (T .names), table-length f n (C .names))
 
     seen-is : at (S .seen) R ≡ C .seen (root v)
-    seen-is = ap (λ (l : List ℕ). at l R) (T .seen) ∙ coded-read f n q (root v) to (C .seen)
+    seen-is = ap (λ (l : List ℕ). at l R) (T .seen) ∙ table-read f n (C .seen) q (root v) to
 
     write-name : (x : ℕ) → set (S .names) N x ≡ table f n (coded v x (C .names))
     write-name x = ap (λ (l : List ℕ). set l N x) (T .names) ∙ coded-write f n p v by (C .names) x
@@ -112,14 +112,14 @@ module _ (f : List ℕ) (n : ℕ) (room : length (keyed f n) < 2147483648) (root
         local e = rw (← e) (noted-tied (2 * S .next + 1) (S .next + 1) (suc (S .next)) (λ z. omega arith) (omega arith) (omega (arith, T .few)))
 
   -- ---- a spot, and all of them
-  spot-tied : (S : State) (C : Coding) → Tied f n S C → (x : Spot) → Mentions f n (x .place) (x .of) → Tied f n (named told S x) (codeKey root away C (x .of))
+  spot-tied : (S : State) (C : Coding) → Tied f n S C → (x : Spot) → Names f n (x .place) (x .of) → Tied f n (named told S x) (codeKey root away C (x .of))
   unfolding named codeKey
   spot-tied S C T x by =
       let N = at (numbered f n) (x .place) in
       let v = x .of in
       let to = rooted (x .place) v by in
-      let a : at (S .names) N ≡ C .names v = ap (λ (l : List ℕ). at l N) (T .names) ∙ coded-read f n (x .place) v by (C .names) in
-      let b : at (table f n places) N ≡ places v = coded-read f n (x .place) v by places in
+      let a : at (S .names) N ≡ C .names v = ap (λ (l : List ℕ). at l N) (T .names) ∙ table-read f n (C .names) (x .place) v by in
+      let b : at (table f n places) N ≡ places v = table-read f n places (x .place) v by in
       let c = root-number f n root (x .place) (to .0) v by (to .1) in
       rw (a, b, c, is-away v)
       (by-test (eqb (v .reg) RSP || not (eqb (C .names v) 0) || not (eqb (places v) 0)) (λ q. rw q T)
@@ -128,7 +128,7 @@ module _ (f : List ℕ) (n : ℕ) (room : length (keyed f n) < 2147483648) (root
       unnamed : (r : Bool) (m : ℕ) (b : Bool) → (r || not (eqb m 0) || b) ≡ false → m ≡ 0
       unnamed r m b e = eqb-true m 0 (not-false (eqb m 0) (both-false r (not (eqb m 0)) (both-false (r || not (eqb m 0)) b e .0) .1))
 
-  pub walk-tied : (xs : List Spot) → Each (λ (x : Spot). Mentions f n (x .place) (x .of)) xs → (S : State) (C : Coding) → Tied f n S C
+  pub walk-tied : (xs : List Spot) → Each (Right f n) xs → (S : State) (C : Coding) → Tied f n S C
       → Tied f n (walked told S xs) (codeKeys root away C (map (λ (x : Spot). x .of) xs))
   unfolding walked codeKeys
   walk-tied [] end S C T = T

@@ -1,16 +1,17 @@
--- A walk goes over spots one behind the other: a run of calls, and the loops, which go over the numbers from k up to b. What the returns come to.
+-- A walk goes over spots one behind the other: a run of calls, and what the returns come to.
 use mathlib.Core.Path.{_≡_, refl, sym, ap, ap₂, _∙_}
 use mathlib.Core.Bool.{Bool, true, false}
-use mathlib.Core.List.{List, [], _∷_, _++_, map}
-use Prim.Native.Nat.{ℕ, suc, _+_, _-_, _≤_, _<_}
+use mathlib.Core.List.{List, _∷_, _++_, map}
+use Prim.Native.Nat.{ℕ, _+_, _-_}
 use native.Mathlib.Omega.{arith}
 use borrow.Author.Tests.{ne-eqb}
-use Rattle.definition.specs.Lists.{gather, range}
+use Rattle.definition.specs.Lists.{range}
 use Rattle.definition.specs.Contents.{phiWord, inputAt, exprWord}
 use Rattle.definition.specs.Owners.{exprItems, valueItems, phiInputs, firstInput, firstItem}
 use Rattle.definition.specs.Values.{Value, value}
 use Rattle.definition.specs.Meaning.{phiValue, assigned, callReturns}
 use Rattle.definition.specs.Read.{marked}
+use Rattle.definition.proofs.Runs.{run-then}
 use Rattle.defined.specs.declared.value.Value.{Value as Value′}
 use Rattle.defined.specs.declared.value.Defined.{Defined}
 use Rattle.defined.specs.declared.value.Defined.the-variants.{Nothing, One}
@@ -25,39 +26,14 @@ use Rattle.naming.specs.declared.runs.Run.the-variants.{Inputs, Items, U
 use Rattle.naming.specs.Walk.{walked, inputSpot, phiSpots, fieldSpots, itemSpot, itemSpots, stmtSpots, runSpot}
 
 module _ (K : Known) where
-  walk-append : (S : State) (xs ys : List Spot) → walked K S (xs ++ ys) ≡ walked K (walked K S xs) ys
-  unfolding walked
-  walk-append S [] ys = refl
-  walk-append S (x ∷ xs) ys = walk-append (named K S x) xs ys
-
   -- one spot before others, and several
-  pub walk-next : (S T R : State) (x : Spot) (xs : List Spot) → T ≡ named K S x → R ≡ walked K T xs → R ≡ walked K S (x ∷ xs)
+  walk-next : (S T R : State) (x : Spot) (xs : List Spot) → T ≡ named K S x → R ≡ walked K T xs → R ≡ walked K S (x ∷ xs)
   unfolding walked
   walk-next S T R x xs p q = q ∙ ap (λ (U : State). walked K U xs) p
 
   pub walk-more : (S T R : State) (xs ys : List Spot) → T ≡ walked K S xs → R ≡ walked K T ys → R ≡ walked K S (xs ++ ys)
-  walk-more S T R xs ys p q = q ∙ ap (λ (U : State). walked K U ys) p ∙ sym (walk-append S xs ys)
-
-  -- a turn over one spot, and over several
-  pub each-turn : (g : ℕ → Spot) (S S′ : State) (k b : ℕ) → k < b → S′ ≡ named K S (g k) → walked K S (map g (range k (b - k))) ≡ walked K S′ (map g (range (k + 1) (b - (k + 1))))
-  unfolding walked range
-  each-turn g S S′ k b h e =
-      let p : b - k ≡ suc (b - (k + 1)) = omega arith in
-      rw (p, e)
-
-  pub each-end : (g : ℕ → Spot) (S R : State) (k b : ℕ) → b ≤ k → R ≡ walked K S (map g (range k (b - k))) → S ≡ R
-  unfolding walked range
-  each-end g S R k b h e = let p : b - k ≡ 0 = omega arith in sym (e ∙ rw p)
-
-  pub runs-turn : (g : ℕ → List Spot) (S S′ : State) (k b : ℕ) → k < b → S′ ≡ walked K S (g k) → walked K S (gather g (range k (b - k))) ≡ walked K S′ (gather g (range (k + 1) (b - (k + 1))))
-  unfolding gather range
-  runs-turn g S S′ k b h e =
-      let p : b - k ≡ suc (b - (k + 1)) = omega arith in
-      rw (p, e) (walk-append S (g k) (gather g (range (k + 1) (b - (k + 1)))))
-
-  pub runs-end : (g : ℕ → List Spot) (S R : State) (k b : ℕ) → b ≤ k → R ≡ walked K S (gather g (range k (b - k))) → S ≡ R
-  unfolding walked range gather
-  runs-end g S R k b h e = let p : b - k ≡ 0 = omega arith in sym (e ∙ rw p)
+  unfolding walked
+  walk-more = run-then (walked K) (named K) (λ S. refl) (λ S x xs. refl)
 
 -- ---- number k of a run, as it is read
 module _ (f order : List ℕ) (P : Places) (run : Run) (k : ℕ) (places : P ≡ placesOf f) where

@@ -10,15 +10,13 @@ use Rattle.definition.specs.Owners.{firstInput, firstItem}
 use Rattle.definition.specs.Shape.{owned}
 use Rattle.definition.specs.Values.{Value}
 use Rattle.definition.specs.Read.{read}
-use Rattle.definition.specs.Classes.{find, classes}
 use Rattle.definition.specs.Inline.{readsOf, inline, inPlace}
 use Rattle.values.specs.declared.places.Places.{Places}
-use Rattle.values.specs.Keys.{keyOf, placesOf, keyed}
-use Rattle.values.specs.Tables.{numberOf, table}
+use Rattle.values.specs.Keys.{placesOf}
+use Rattle.values.specs.Tables.{table}
 use Rattle.reads.specs.Orders.{Ordered}
-use Rattle.names.specs.Codes.{nameCode}
 use Rattle.names.specs.Spots.{Spot, Known, state}
-use Rattle.names.specs.Given.{entryTable}
+use Rattle.names.specs.Given.{entryTable, rootTable, nameTable}
 use Rattle.naming.specs.declared.position.Walk.{Walk}
 use Rattle.naming.specs.Walk.{walked}
 
@@ -39,7 +37,7 @@ pub record Went (f : List ℕ) (K : Known) (n s n′ s′ : List ℕ) (w r : Wal
 
 -- what naming is told: the roots of classes, the values written in place, those that p is not 0 of, and those really read at entry
 pub record Told (E : Edition) (p : Value → ℕ) (f : List ℕ) (n : ℕ) (roots places entry : List ℕ) : Type 0 where
-  pub rooted : roots ≡ table f n (λ v. numberOf (keyed f n) (keyOf (find (classes (read E f)) v)))
+  pub rooted : roots ≡ rootTable E f n
   pub placed : places ≡ table f n p
   pub away : (v : Value) → inPlace (inline (read E f) (readsOf (read E f))) v ≡ not (eqb (p v) 0)
   pub entered : entry ≡ entryTable E f n
@@ -47,5 +45,5 @@ pub record Told (E : Edition) (p : Value → ℕ) (f : List ℕ) (n : ℕ) (root
 -- every value's name, and the table of classes cleared again
 pub record NamesAll (f : List ℕ) (n : ℕ) (roots places entry names seen : List ℕ) : Type 0 where
   pub says : (E : Edition) (p : Value → ℕ) → Told E p f n roots places entry
-      → names ≡ table f n (nameCode (read E f) (classes (read E f)) (inline (read E f) (readsOf (read E f))))
+      → names ≡ nameTable E f n
   pub cleared : seen ≡ replicate n 0

@@ -19,7 +19,7 @@ use Rattle.clips.specs.Clip.{clipAt, hasText, texts, clip, Orderly}
 use Rattle.clips.proofs.Clips.{text-none}
 use Rattle.comparisons.specs.declared.looks.Look.{Look}
 use Rattle.comparisons.specs.Looks.{opened, shut, marked, unseen, stepped, looked}
-use Rattle.comparisons.proofs.Looking.{step-hits}
+use Rattle.comparisons.proofs.Looking.{step-hits, opened-none, shut-none}
 use Rattle.negate.specs.Flipping.{flipOf, flipped}
 
 abbrev marks : List Bool → ℕ
@@ -33,14 +33,6 @@ module _ (u : Token) where
 
   -- without text
   module _ (none : u .text ≡ []) where
-    opened-none : (o : ℕ) → opened o u ≡ o
-    unfolding opened count
-    opened-none o = by-cond (λ n. n ≡ o) (eqb (u .kind) 6) (λ e. ap (λ (s : List ℕ). o + count (eqb 40) s) none ∙ omega arith) (λ e. refl)
-
-    shut-none : (c : ℕ) → shut c u ≡ c
-    unfolding shut count
-    shut-none c = by-cond (λ n. n ≡ c) (eqb (u .kind) 6) (λ e. ap (λ (s : List ℕ). c + count (eqb 41) s) none ∙ omega arith) (λ e. refl)
-
     marked-none : (o c : ℕ) → marked o c u ≡ false
     unfolding marked compares flips any contains begins
     marked-none o c = ap (λ (s : List ℕ). eqb (u .kind) 6 && eqb (opened o u) (shut c u) && compares s) none ∙ go (eqb (u .kind) 6) (eqb (opened o u) (shut c u))

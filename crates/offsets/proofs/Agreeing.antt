@@ -11,7 +11,7 @@ use mir.Syntax.{w8}
 use mir.Val.{Fits}
 use borrow.Author.Tests.{eq-eqb, ne-eqb}
 use Rattle.words.proofs.Laws.{word-small}
-use Rattle.records.proofs.Below.{sum-le, sum-turn}
+use Rattle.records.proofs.Below.{sum-part}
 use Rattle.records.proofs.Parts.{owned-parts}
 use Rattle.definition.specs.Edition.{phis, inputs, statements}
 use Rattle.definition.specs.Lists.{all, range}
@@ -23,9 +23,10 @@ use Rattle.values.specs.declared.places.Places.{Places}
 use Rattle.values.specs.Keys.{phiKey, inputKey, stmtKey, placesOf}
 use Rattle.values.specs.Tables.{at, table}
 use Rattle.values.proofs.Placed.{at-phi, at-input, at-stmt, phi-here, stmt-here, input-here}
+use Rattle.values.proofs.Tables.{Names}
 use Rattle.sums.specs.Ground.{Ground}
 use Rattle.sums.specs.Address.{valueAt}
-use Rattle.sums.proofs.Naming.{Names, place-here, known-at}
+use Rattle.sums.proofs.Naming.{inside, names-at, known-at}
 use Rattle.offsets.specs.Agreed.{agreeFrom, agreedBy}
 
 -- ---- what n agree on
@@ -83,40 +84,31 @@ module _ (f : List ℕ) (k : List Known) (h : ℕ → ℕ) (r a : ℕ) where
 module _ (f numbers : List ℕ) (places : Places) (g : Ground f numbers places) where
   -- places are inside
   pub phi-inside : (i : ℕ) → i < size f phis → places .phis + i < length numbers
-  phi-inside i h = rw (g .where-all) (omega (arith, phi-here f i h, g .room))
+  phi-inside i h = inside f numbers places g (λ (q : Places). q .phis) i (phi-here f i h)
 
   pub inputs-inside : (i : ℕ) → i < size f phis → places .inputs + firstInput f i + phiInputs f i ≤ length numbers
   unfolding placesOf firstInput
-  inputs-inside i h =
-      let t = sum-turn (phiInputs f) {i = i} refl refl in
-      rw (g .where-all) (omega (arith, sum-le (phiInputs f) (i + 1) (size f phis) (omega arith), owned-parts f (g .counts) .all-inputs, g .room))
+  inputs-inside i h = rw (g .where-all) (omega (arith, sum-part (phiInputs f) {i = i} (size f phis) h refl refl, owned-parts f (g .counts) .all-inputs, g .room))
 
   module _ (bytes : (k : ℕ) → Fits w8 (getD f k 0)) where
     pub phi-names : (i : ℕ) → i < size f phis → Names f (length numbers) (places .phis + i) (value (phiWord f i 0) (phiWord f i 1))
     unfolding phiKey
-    phi-names i h = rw (g .where-all) (record {
-      here = place-here f numbers places g (placesOf f .phis + i) (phi-here f i h);
-      is = at-phi f (length numbers) i h;
-      small = word-small f bytes _;
-    })
+    phi-names i h =
+        names-at f numbers places g (λ (q : Places). q .phis) i (value (phiWord f i 0) (phiWord f i 1)) (phi-here f i h)
+        (at-phi f (length numbers) i h) (word-small f bytes _)
 
     input-names : (i j : ℕ) → i < size f phis → j < phiInputs f i → Names f (length numbers) (places .inputs + firstInput f i + j) (value (phiWord f i 0) (inputAt f (firstInput f i + j)))
     unfolding inputKey
     input-names i j h l =
-        let e : placesOf f .inputs + firstInput f i + j ≡ placesOf f .inputs + (firstInput f i + j) = omega arith in
-        rw (g .where-all, e) (record {
-          here = place-here f numbers places g (placesOf f .inputs + (firstInput f i + j)) (input-here f (g .counts) i j h l);
-          is = at-input f (length numbers) i j h l;
-          small = word-small f bytes _;
-        })
+        let e : places .inputs + firstInput f i + j ≡ places .inputs + (firstInput f i + j) = omega arith in
+        rw e (names-at f numbers places g (λ (q : Places). q .inputs) (firstInput f i + j) (value (phiWord f i 0) (inputAt f (firstInput f i + j)))
+        (input-here f (g .counts) i j h l) (at-input f (length numbers) i j h l) (word-small f bytes _))
 
     pub assign-names : (i : ℕ) → i < size f statements → stmtKind f i ≡ 1 → Names f (length numbers) (places .stmts + i) (value (stmtField f i 0) (stmtField f i 1))
     unfolding stmtKey
-    assign-names i h e = rw (g .where-all) (record {
-      here = place-here f numbers places g (placesOf f .stmts + i) (stmt-here f i h);
-      is = rw e at (at-stmt f (length numbers) (g .counts) i h);
-      small = word-small f bytes _;
-    })
+    assign-names i h e =
+        names-at f numbers places g (λ (q : Places). q .stmts) i (value (stmtField f i 0) (stmtField f i 1)) (stmt-here f i h)
+        (rw e at (at-stmt f (length numbers) (g .counts) i h)) (word-small f bytes _)
 
     module _ (tab : List ℕ) (k : List Known) (follows : tab ≡ table f (length numbers) (look k)) where
       input-known : (i j : ℕ) → i < size f phis → j < phiInputs f i

@@ -91,7 +91,7 @@ module _ (f : List ℕ) (n : ℕ) (long : length (keyed f n) ≡ n) where
       let p = firstOf (keyed f n) (keyOf (value RSP 0)) in
       let is : at (keyed f n) p ≡ keyOf (value RSP 0) = first-is (keyed f n) (keyOf (value RSP 0)) h in
       let number : at (numbered f n) p ≡ p = numbered-at f n p h ∙ rw (is, ne-eqb (keyOf (value RSP 0)) 0 (key-not-0 (value RSP 0))) in
-      ap (λ (q : ℕ). set (table f n (λ v. 0)) q half) (sym number) ∙ table-write f n (λ v. 0) p RSP 0 h is (omega arith) half
+      ap (λ (q : ℕ). set (table f n (λ v. 0)) q half) (sym number) ∙ table-write f n (λ v. 0) p (value RSP 0) (record { here = h; is = is; small = omega arith }) half
 
   begin : (p : ℕ) (t : List ℕ) → p ≡ firstOf (keyed f n) 17179869185 → t ≡ replicate n 0 → set t p half ≡ table f n (look entered)
   unfolding keyOf

@@ -14,6 +14,7 @@ use Rattle.definition.specs.Values.{eqv}
 use Rattle.definition.specs.Offsets.{Known, look, Def, defined, rule, learn, round, rounds, closure}
 use Rattle.definition.proofs.Bools.{by-test}
 use Rattle.definition.proofs.ListLaws.{bit, count-cons, count-at, count-length}
+use Rattle.definition.proofs.Runs.{run-append}
 use Rattle.definition.proofs.Equal.{eqv-refl}
 
 -- ---- one definition
@@ -116,8 +117,7 @@ round-told es xs (d ∷ ds) e k =
 -- rounds one behind the other
 pub round-append : (xs ys : List Def) (k : List Known) → round (xs ++ ys) k ≡ round ys (round xs k)
 unfolding round
-round-append [] ys k = refl
-round-append (d ∷ xs) ys k = round-append xs ys (learn k d)
+round-append xs ys k = run-append (λ (j : List Known) (ds : List Def). round ds j) learn (λ j. refl) (λ j d ds. refl) k xs ys
 
 module _ (ds : List Def) where
   rounds-sum : (n m : ℕ) (k : List Known) → rounds ds (n + m) k ≡ rounds ds m (rounds ds n k)

@@ -18,12 +18,12 @@ use Rattle.definition.proofs.ListLaws.{bit, count-cons, only-append}
 use Rattle.records.proofs.Ranges.{range-parts, gather-append}
 use Rattle.values.specs.declared.places.Places.{Places}
 use Rattle.values.specs.Tables.{at, numbered, table}
-use Rattle.values.proofs.Tables.{table-write}
+use Rattle.values.proofs.Tables.{table-write, Names}
 use Rattle.sums.specs.Ground.{Ground}
 use Rattle.offsets.specs.Defs.{turnOf, mine, phiDefs, stmtDefs, defsBelow}
 use Rattle.offsets.specs.Ran.{Pass, passOf, learnt, zeros, Ran}
 use Rattle.offsets.proofs.Closing.{known, learn-none, learn-old, learn-new, round-append}
-use Rattle.sums.proofs.Naming.{Names, known-at, number-low}
+use Rattle.sums.proofs.Naming.{known-at, number-low}
 
 -- ---- zeros
 zeros-set : (l : List ℕ) (i x : ℕ) → i < length l → at l i ≡ 0 → (x ≡ 0 → ⊥) → zeros (set l i x) + 1 ≡ zeros l
@@ -46,11 +46,11 @@ module _ (f : List ℕ) (n : ℕ) where
     still = λ q k e. h k e;
   }
 
-  pub ran-none : (tab : List ℕ) → Ran f n [] tab tab false
+  ran-none : (tab : List ℕ) → Ran f n [] tab tab false
   unfolding round
   ran-none tab = ran-still [] tab (λ k e. refl)
 
-  pub ran-then : (xs ys : List Def) (t u w : List ℕ) (a b : Bool) → Ran f n xs t u a → Ran f n ys u w b → Ran f n (xs ++ ys) t w (a || b)
+  ran-then : (xs ys : List Def) (t u w : List ℕ) (a b : Bool) → Ran f n xs t u a → Ran f n ys u w b → Ran f n (xs ++ ys) t w (a || b)
   ran-then xs ys t u w a b p q = record {
     falls = less a b (p .falls) (q .falls);
     learns = λ k e. q .learns (round xs k) (p .learns k e) ∙ ap (λ (j : List Known). table f n (look j)) (sym (round-append xs ys k));
@@ -85,7 +85,7 @@ module _ (f numbers : List ℕ) (places : Places) (g : Ground f numbers places) 
   unfolding look
   set-known k e =
       ap (λ (l : List ℕ). set tab (at l p) x) (g .values) ∙ ap (λ (l : List ℕ). set l (at (numbered f (length numbers)) p) x) e
-      ∙ table-write f (length numbers) (look k) p (defined d .reg) (defined d .ver) (names .here) (names .is) (names .small) x
+      ∙ table-write f (length numbers) (look k) p (defined d) names x
 
   new-ran : at tab (at numbers p) ≡ 0 → (x ≡ 0 → ⊥) → Ran f (length numbers) (d ∷ []) tab (set tab (at numbers p) x) true
   unfolding round
@@ -133,81 +133,47 @@ module _ (own : Bool) where
   mine-none = refl
 
 -- ---- the definitions of records
-phis-parts : (f : List ℕ) (a n : ℕ) → phiDefs f a (n + 1) ≡ phiDefs f a n ++ phiDefs f (a + n) 1
+-- what goes by parts, over records from a on
+by-parts : {A : Type 0} {B : Type 0} (h : List A → List B) → ((xs ys : List A) → h (xs ++ ys) ≡ h xs ++ h ys) → (g : ℕ → A) (a n : ℕ)
+    → h (map g (range a (n + 1))) ≡ h (map g (range a n)) ++ h (map g (range (a + n) 1))
+by-parts h parts g a n =
+    ap (λ (l : List ℕ). h (map g l)) (range-parts a n 1) ∙ ap h (map-append g (range a n) (range (a + n) 1)) ∙ parts (map g (range a n)) (map g (range (a + n) 1))
+
+pub phis-parts : (f : List ℕ) (a n : ℕ) → phiDefs f a (n + 1) ≡ phiDefs f a n ++ phiDefs f (a + n) 1
 unfolding phiDefs
-phis-parts f a n =
-    ap (λ (l : List ℕ). map phiDef (map (phiAt f) l)) (range-parts a n 1)
-    ∙ ap (map phiDef) (map-append (phiAt f) (range a n) (range (a + n) 1)) ∙ map-append phiDef (map (phiAt f) (range a n)) (map (phiAt f) (range (a + n) 1))
+phis-parts f = by-parts (map phiDef) (map-append phiDef) (phiAt f)
 
 module _ (E : Edition) (f : List ℕ) where
-  stmts-parts : (a n : ℕ) → stmtDefs E f a (n + 1) ≡ stmtDefs E f a n ++ stmtDefs E f (a + n) 1
+  pub stmts-parts : (a n : ℕ) → stmtDefs E f a (n + 1) ≡ stmtDefs E f a n ++ stmtDefs E f (a + n) 1
   unfolding stmtDefs
-  stmts-parts a n =
-      let at = stmtAt E f (allTrees E f) in
-      ap (λ (l : List ℕ). gather (λ s. stmtDef (s .kind)) (map at l)) (range-parts a n 1)
-      ∙ ap (gather (λ s. stmtDef (s .kind))) (map-append at (range a n) (range (a + n) 1))
-      ∙ gather-append (λ s. stmtDef (s .kind)) (map at (range a n)) (map at (range (a + n) 1))
+  stmts-parts = by-parts (gather (λ s. stmtDef (s .kind))) (gather-append (λ s. stmtDef (s .kind))) (stmtAt E f (allTrees E f))
 
-  blocks-parts : (b : ℕ) → defsBelow E f (b + 1) ≡ defsBelow E f b ++ blockDefs (blockAt E f (allTrees E f) b)
+  pub blocks-parts : (b : ℕ) → defsBelow E f (b + 1) ≡ defsBelow E f b ++ blockDefs (blockAt E f (allTrees E f) b)
   unfolding defsBelow gather range
   blocks-parts b =
       let at = blockAt E f (allTrees E f) in
       let z : 0 + b ≡ b = omega arith in
-      ap (λ (l : List ℕ). gather blockDefs (map at l)) (range-parts 0 b 1 ∙ ap (λ (c : ℕ). range 0 b ++ range c 1) z)
-      ∙ ap (gather blockDefs) (map-append at (range 0 b) (b ∷ []))
-      ∙ gather-append blockDefs (map at (range 0 b)) (at b ∷ [])
-      ∙ ap (λ (l : List Def). gather blockDefs (map at (range 0 b)) ++ l) (append-nil (blockDefs (at b)))
+      by-parts (gather blockDefs) (gather-append blockDefs) at 0 b
+      ∙ ap (λ (l : List Def). gather blockDefs (map at (range 0 b)) ++ l) (rw z (append-nil (blockDefs (at b))))
 
   block-parts : (b : ℕ) → blockDefs (blockAt E f (allTrees E f) b) ≡ phiDefs f (firstPhi f b) (blockPhis f b) ++ stmtDefs E f (firstStmt f b) (blockStmts f b)
   unfolding blockDefs blockAt phiDefs stmtDefs
   block-parts b = refl
 
--- the loops: how they begin, a turn, and the end; r is what the code answers of the two
+-- the loops: a turn, how they begin, and the end; r is what the code answers of the two
 module _ (f : List ℕ) (n : ℕ) (own : Bool) where
   -- runs of two lists of definitions, of those whose turn it is
-  both-ran : (ds xs ys : List Def) (t u w : List ℕ) (a b r : Bool) → ds ≡ xs ++ ys → r ≡ (a || b) → Ran f n (mine own xs) t u a → Ran f n (mine own ys) u w b → Ran f n (mine own ds) t w r
+  pub both-ran : (ds xs ys : List Def) (t u w : List ℕ) (a b r : Bool) → ds ≡ xs ++ ys → r ≡ (a || b) → Ran f n (mine own xs) t u a → Ran f n (mine own ys) u w b → Ran f n (mine own ds) t w r
   both-ran ds xs ys t u w a b r e o p q =
       rw o (ran-same f n (mine own ds) (mine own xs ++ mine own ys) t w (a || b) (ap (mine own) e ∙ mine-append own xs ys) (ran-then f n (mine own xs) (mine own ys) t u w a b p q))
 
-  nothing-ran : (ds : List Def) (t : List ℕ) → ds ≡ [] → Ran f n (mine own ds) t t false
-  nothing-ran ds t e = ran-same f n (mine own ds) [] t t false (ap (mine own) e ∙ mine-none own) (ran-none f n t)
+  pub nothing-ran : (ds : List Def) (t : List ℕ) → mine own ds ≡ [] → Ran f n (mine own ds) t t false
+  nothing-ran ds t e = ran-same f n (mine own ds) [] t t false e (ran-none f n t)
 
-  pub phis-start : (a : ℕ) (t : List ℕ) → Ran f n (mine own (phiDefs f a 0)) t t false
-  unfolding phiDefs range
-  phis-start a t = nothing-ran [] t refl
+  pub all-ran : (ds : ℕ → List Def) (i m l : ℕ) (t u : List ℕ) (c : Bool) → i ≤ m → m ≤ i → m ≡ l → Ran f n (mine own (ds i)) t u c → Ran f n (mine own (ds l)) t u c
+  all-ran ds i m l t u c p q s r = let e : l ≡ i = omega arith in rw e r
 
-  pub phis-turn : (a i : ℕ) (t u w : List ℕ) (c d r : Bool) → r ≡ (c || d) → Ran f n (mine own (phiDefs f a i)) t u c → Ran f n (mine own (phiDefs f (a + i) 1)) u w d
-      → Ran f n (mine own (phiDefs f a (i + 1))) t w r
-  phis-turn a i t u w c d r e p q = both-ran (phiDefs f a (i + 1)) (phiDefs f a i) (phiDefs f (a + i) 1) t u w c d r (phis-parts f a i) e p q
-
-  pub phis-end : (a i m : ℕ) (t u : List ℕ) (c : Bool) → i ≤ m → m ≤ i → Ran f n (mine own (phiDefs f a i)) t u c → Ran f n (mine own (phiDefs f a m)) t u c
-  phis-end a i m t u c p q r = let e : m ≡ i = omega arith in rw e r
-
-  module _ (E : Edition) where
-    pub stmts-start : (a : ℕ) (t : List ℕ) → Ran f n (mine own (stmtDefs E f a 0)) t t false
-    unfolding stmtDefs range gather
-    stmts-start a t = nothing-ran [] t refl
-
-    pub stmts-turn : (a i : ℕ) (t u w : List ℕ) (c d r : Bool) → r ≡ (c || d) → Ran f n (mine own (stmtDefs E f a i)) t u c → Ran f n (mine own (stmtDefs E f (a + i) 1)) u w d
-        → Ran f n (mine own (stmtDefs E f a (i + 1))) t w r
-    stmts-turn a i t u w c d r e p q = both-ran (stmtDefs E f a (i + 1)) (stmtDefs E f a i) (stmtDefs E f (a + i) 1) t u w c d r (stmts-parts E f a i) e p q
-
-    pub stmts-end : (a i m : ℕ) (t u : List ℕ) (c : Bool) → i ≤ m → m ≤ i → Ran f n (mine own (stmtDefs E f a i)) t u c → Ran f n (mine own (stmtDefs E f a m)) t u c
-    stmts-end a i m t u c p q r = let e : m ≡ i = omega arith in rw e r
-
-    pub block-ran : (b x y l m : ℕ) (t u w : List ℕ) (c d r : Bool) → x ≡ firstPhi f b → y ≡ firstStmt f b → l ≡ blockPhis f b → m ≡ blockStmts f b → r ≡ (c || d)
-        → Ran f n (mine own (phiDefs f x l)) t u c → Ran f n (mine own (stmtDefs E f y m)) u w d → Ran f n (mine own (blockDefs (blockAt E f (allTrees E f) b))) t w r
-    block-ran b x y l m t u w c d r ex ey el em e p q =
-        both-ran (blockDefs (blockAt E f (allTrees E f) b)) (phiDefs f x l) (stmtDefs E f y m) t u w c d r (block-parts E f b ∙ rw (ex, ey, el, em)) e p q
-
-    pub blocks-start : (t : List ℕ) → Ran f n (mine own (defsBelow E f 0)) t t false
-    unfolding defsBelow range gather
-    blocks-start t = nothing-ran [] t refl
-
-    pub blocks-turn : (b : ℕ) (t u w : List ℕ) (c d r : Bool) → r ≡ (c || d) → Ran f n (mine own (defsBelow E f b)) t u c
-        → Ran f n (mine own (blockDefs (blockAt E f (allTrees E f) b))) u w d → Ran f n (mine own (defsBelow E f (b + 1))) t w r
-    blocks-turn b t u w c d r e p q =
-        both-ran (defsBelow E f (b + 1)) (defsBelow E f b) (blockDefs (blockAt E f (allTrees E f) b)) t u w c d r (blocks-parts E f b) e p q
-
-    pub blocks-end : (b m l : ℕ) (t u : List ℕ) (c : Bool) → b ≤ m → m ≤ b → m ≡ l → Ran f n (mine own (defsBelow E f b)) t u c → Ran f n (mine own (defsBelow E f l)) t u c
-    blocks-end b m l t u c p q s r = let e : l ≡ b = omega arith in rw e r
+  pub block-ran : (E : Edition) (b x y l m : ℕ) (t u w : List ℕ) (c d r : Bool) → x ≡ firstPhi f b → y ≡ firstStmt f b → l ≡ blockPhis f b → m ≡ blockStmts f b → r ≡ (c || d)
+      → Ran f n (mine own (phiDefs f x l)) t u c → Ran f n (mine own (stmtDefs E f y m)) u w d → Ran f n (mine own (blockDefs (blockAt E f (allTrees E f) b))) t w r
+  block-ran E b x y l m t u w c d r ex ey el em e p q =
+      both-ran (blockDefs (blockAt E f (allTrees E f) b)) (phiDefs f x l) (stmtDefs E f y m) t u w c d r (block-parts E f b ∙ rw (ex, ey, el, em)) e p q

@@ -16,7 +16,7 @@ use Rattle.definition.specs.Owners.{stmtKind, stmtField, phiInputs, firstInput}
 use Rattle.definition.specs.Values.{value}
 use Rattle.definition.specs.Ssa.{Kind}
 use Rattle.definition.specs.Read.{treeAt, allTrees, kindAt, stmtAt, phiAt}
-use Rattle.definition.specs.Offsets.{Known, look, stackOff, Def, byPhi, byExpr, phiDef, stmtDef, defined, rule}
+use Rattle.definition.specs.Offsets.{Known, look, stackOff, byPhi, byExpr, phiDef, stmtDef, defined, rule}
 use Rattle.definition.proofs.Bools.{by-cond}
 use Rattle.values.specs.declared.places.Places.{Places}
 use Rattle.values.specs.Tables.{at, table}
@@ -26,7 +26,7 @@ use Rattle.offsets.specs.Agreed.{agreedBy}
 use Rattle.offsets.specs.Defs.{turnOf, mine, phiDefs, stmtDefs}
 use Rattle.offsets.specs.Ran.{passOf, learnt, Ran}
 use Rattle.offsets.proofs.Agreeing.{phi-names, assign-names, phi-agreed}
-use Rattle.offsets.proofs.Running.{ran-none, ran-same, learn-ran, mine-one, mine-other, mine-none}
+use Rattle.offsets.proofs.Running.{ran-same, learn-ran, mine-one, mine-other, mine-none, nothing-ran}
 
 -- ---- whose turn it is
 pub turn-own : (own : Bool) (r : ℕ) → own ≡ true → eqb r 4 ≡ turnOf own r
@@ -53,12 +53,9 @@ module _ (tab : List ℕ) (v x y : ℕ) (read : y ≡ at tab v) where
 
 -- ---- definitions that add nothing
 module _ (f : List ℕ) (n : ℕ) (own : Bool) (tab : List ℕ) where
-  none-ran : (ds : List Def) → mine own ds ≡ [] → Ran f n (mine own ds) tab tab false
-  none-ran ds e = ran-same f n (mine own ds) [] tab tab false e (ran-none f n tab)
-
   pub phi-other : (i r : ℕ) (b : Bool) → r ≡ phiWord f i 0 → b ≡ turnOf own r → b ≡ false → Ran f n (mine own (phiDefs f i 1)) tab tab false
   unfolding phiDefs range phiDef phiAt defined
-  phi-other i r b p q e = none-ran (phiDefs f i 1) (mine-other own (phiDef (phiAt f i)) (rw (q, p) at e))
+  phi-other i r b p q e = nothing-ran f n own (phiDefs f i 1) tab (mine-other own (phiDef (phiAt f i)) (rw (q, p) at e))
 
   module _ (E : Edition) (i : ℕ) where
     no-assign : (stmtKind f i ≡ 1 → ⊥) → stmtDefs E f i 1 ≡ []
@@ -78,13 +75,13 @@ module _ (f : List ℕ) (n : ℕ) (own : Bool) (tab : List ℕ) where
     one-assign e = rw e
 
     pub stmt-none : (k : ℕ) → k ≡ stmtKind f i → (k ≡ 1 → ⊥) → Ran f n (mine own (stmtDefs E f i 1)) tab tab false
-    stmt-none k p h = none-ran (stmtDefs E f i 1) (ap (mine own) (no-assign (λ e. h (p ∙ e))) ∙ mine-none own)
+    stmt-none k p h = nothing-ran f n own (stmtDefs E f i 1) tab (ap (mine own) (no-assign (λ e. h (p ∙ e))) ∙ mine-none own)
 
     pub assign-other : (k r : ℕ) (b : Bool) → k ≡ stmtKind f i → k ≡ 1 → r ≡ stmtField f i 0 → b ≡ turnOf own r → b ≡ false → Ran f n (mine own (stmtDefs E f i 1)) tab tab false
     unfolding defined
     assign-other k r b p h q u e =
         let d = byExpr (value (stmtField f i 0) (stmtField f i 1)) (treeAt (allTrees E f) (stmtField f i 2)) in
-        none-ran (stmtDefs E f i 1) (ap (mine own) (one-assign (sym p ∙ h)) ∙ mine-other own d (rw (u, q) at e))
+        nothing-ran f n own (stmtDefs E f i 1) tab (ap (mine own) (one-assign (sym p ∙ h)) ∙ mine-other own d (rw (u, q) at e))
 
 -- ---- definitions whose turn it is
 module _ (f numbers : List ℕ) (places : Places) (g : Ground f numbers places) (bytes : (k : ℕ) → Fits w8 (getD f k 0))

@@ -1,5 +1,5 @@
 -- A walk over the blocks comes to the first parts of the next block, and what a block has is inside its section, so that its numbers have 32 bits.
-use mathlib.Core.Path.{_≡_, refl, sym, ap, _∙_}
+use mathlib.Core.Path.{_≡_, sym, ap, _∙_}
 use mathlib.Core.Bool.{Bool, true}
 use mathlib.Core.List.{List}
 use Prim.Native.Nat.{ℕ, _+_, _≤_, _<_}
@@ -12,31 +12,18 @@ use Rattle.definition.specs.Lists.{sumBelow}
 use Rattle.definition.specs.Contents.{size}
 use Rattle.definition.specs.Owners.{blockPhis, blockStmts, phiInputs, firstPhi, firstStmt, firstInput}
 use Rattle.definition.specs.Shape.{owned}
-use Rattle.records.proofs.Below.{sum-start, sum-le, sum-turn}
+use Rattle.records.proofs.Below.{sum-start, sum-turn, sum-part}
 use Rattle.records.proofs.Items.{size-small}
 use Rattle.records.proofs.Parts.{owned-parts}
 use Rattle.offsets.specs.declared.rounds.Walk.{Walk}
 use Rattle.offsets.specs.Before.{Before}
 
 module _ (f : List ℕ) (counts : owned f ≡ true) where
-  pub phis-inside : (b n : ℕ) → b < size f blocks → n ≡ blockPhis f b → firstPhi f b + n ≤ size f phis
-  unfolding firstPhi
-  phis-inside b n h e =
-      let t = sum-turn (blockPhis f) {i = b} refl e in
-      omega (arith, sum-le (blockPhis f) (b + 1) (size f blocks) (omega arith), owned-parts f counts .all-phis)
-
-  pub stmts-inside : (b n : ℕ) → b < size f blocks → n ≡ blockStmts f b → firstStmt f b + n ≤ size f statements
-  unfolding firstStmt
-  stmts-inside b n h e =
-      let t = sum-turn (blockStmts f) {i = b} refl e in
-      omega (arith, sum-le (blockStmts f) (b + 1) (size f blocks) (omega arith), owned-parts f counts .all-stmts)
-
   -- the inputs behind those of phi i have 32 bits
   pub inputs-small : ((k : ℕ) → Fits w8 (getD f k 0)) → (i first n : ℕ) → i < size f phis → first ≡ firstInput f i → n ≡ phiInputs f i → first + n < 4294967296
   unfolding firstInput
   inputs-small bytes i first n h p q =
-      let t = sum-turn (phiInputs f) {i = i} p q in
-      omega (arith, sum-le (phiInputs f) (i + 1) (size f phis) (omega arith), owned-parts f counts .all-inputs, size-small f bytes inputs)
+      omega (arith, sum-part (phiInputs f) (size f phis) h p q, owned-parts f counts .all-inputs, size-small f bytes inputs)
 
 -- one of n numbers from a on
 pub within : (a i n s : ℕ) → i < n → a + n ≤ s → a + i < s
@@ -71,10 +58,12 @@ before-next f b w n m i c h p q e =
 -- the parts of the block that a walk stands before
 module _ (f : List ℕ) (counts : owned f ≡ true) (b : ℕ) (w : Walk) (here : b < size f blocks) (before : Before f b w) where
   pub walk-phis : (n : ℕ) → n ≡ blockPhis f b → w .phi + n ≤ size f phis
-  walk-phis n e = rw (before .phi) (phis-inside f counts b n here e)
+  unfolding firstPhi
+  walk-phis n e = omega (arith, sum-part (blockPhis f) (size f blocks) here (before .phi) e, owned-parts f counts .all-phis)
 
   pub walk-stmts : (n : ℕ) → n ≡ blockStmts f b → w .stmt + n ≤ size f statements
-  walk-stmts n e = rw (before .stmt) (stmts-inside f counts b n here e)
+  unfolding firstStmt
+  walk-stmts n e = omega (arith, sum-part (blockStmts f) (size f blocks) here (before .stmt) e, owned-parts f counts .all-stmts)
 
   pub walk-input : w .input ≡ firstInput f (w .phi)
   walk-input = before .input ∙ ap (firstInput f) (sym (before .phi))

@@ -7,16 +7,22 @@ use native.Mathlib.Omega.{arith}
 use native.Mathlib.Numerals.{add-one}
 use Rattle.outline.specs.Tests.{at, along, someRow}
 
+-- what is left of n from j on: one more than from j + 1 on, and nothing at the end
+module _ {A : Type 0} (f : ℕ → A) (j n : ℕ) where
+  pub left-turn : j < n → f (n - j) ≡ f (suc (n - (j + 1)))
+  left-turn h = let s : n - j ≡ suc (n - (j + 1)) = omega arith in ap f s
+
+  pub left-end : n ≤ j → f (n - j) ≡ f 0
+  left-end h = let s : n - j ≡ 0 = omega arith in ap f s
+
 module _ {A : Type 0} (g : ℕ → ℕ → A → A) (z : A) (R : List ℕ) (j n : ℕ) where
   pub along-turn : j < n → (w : ℕ) → w ≡ at R j → along g z R j (n - j) ≡ g j w (along g z R (j + 1) (n - (j + 1)))
   unfolding along
-  along-turn h w e =
-      let s : n - j ≡ suc (n - (j + 1)) = omega arith in
-      ap (along g z R j) s ∙ ap₂ (λ (q v : ℕ). g j v (along g z R q (n - (j + 1)))) (sym (add-one j)) (sym e)
+  along-turn h w e = left-turn (along g z R j) j n h ∙ ap₂ (λ (q v : ℕ). g j v (along g z R q (n - (j + 1)))) (sym (add-one j)) (sym e)
 
   pub along-end : n ≤ j → along g z R j (n - j) ≡ z
   unfolding along
-  along-end h = let s : n - j ≡ 0 = omega arith in ap (along g z R j) s
+  along-end = left-end (along g z R j) j n
 
 -- ---- a loop that asks a test of each row
 module _ (p : ℕ → Bool) (R : List ℕ) (j n : ℕ) where

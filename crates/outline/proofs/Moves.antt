@@ -10,6 +10,7 @@ use lib.Seq.{set-split, take-set-le, drop-set-add, drop-set-lt, drop-cons, take-
 use borrow.Author.Tests.{lt-ltb, le-ltb}
 use Rattle.outline.specs.Rows.{kindOf, indentOf}
 use Rattle.outline.specs.Forming.{raised, turned, nought, changedIn, inserted}
+use Rattle.outline.proofs.Along.{left-turn, left-end}
 
 -- ---- each place changed
 module _ (f : ℕ → ℕ) where
@@ -34,13 +35,11 @@ module _ (f : ℕ → ℕ) where
 
   pub change-turn : (s : List ℕ) (k b v : ℕ) → k < b → v ≡ f (getD s k 0) → changeF s k (b - k) ≡ changeF (set s k v) (k + 1) (b - (k + 1))
   unfolding changeF
-  change-turn s k b v h q =
-      let e : b - k ≡ suc (b - (k + 1)) = omega arith in
-      ap (changeF s k) e ∙ ap₂ (λ (i w : ℕ). changeF (set s k w) i (b - (k + 1))) (sym (add-one k)) (sym q)
+  change-turn s k b v h q = left-turn (changeF s k) k b h ∙ ap₂ (λ (i w : ℕ). changeF (set s k w) i (b - (k + 1))) (sym (add-one k)) (sym q)
 
   pub change-end : (s : List ℕ) (k b : ℕ) → b ≤ k → changeF s k (b - k) ≡ s
   unfolding changeF
-  change-end s k b h = let e : b - k ≡ 0 = omega arith in ap (changeF s k) e
+  change-end s k b = left-end (changeF s k) k b
 
 pub zeros : (l : List ℕ) → map nought l ≡ replicate (length l) 0
 unfolding nought
@@ -93,7 +92,7 @@ shift-turn s j k h =
 
 pub shift-end : (s : List ℕ) (j k : ℕ) → k ≤ j → shiftF s j (k - j) ≡ s
 unfolding shiftF
-shift-end s j k h = let e : k - j ≡ 0 = omega arith in ap (shiftF s j) e
+shift-end s j k = left-end (shiftF s j) j k
 
 -- ---- one brace more
 module _ (w x : ℕ) (e : x ≡ indentOf w) where

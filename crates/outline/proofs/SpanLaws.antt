@@ -1,18 +1,20 @@
 -- The table of spans, one turn at a time; and what a span says of the rows below a and from b on, from its two fields.
-use mathlib.Core.Path.{_≡_, sym, ap, ap₂, _∙_}
+use mathlib.Core.Path.{_≡_, refl, sym, ap, ap₂, _∙_}
 use mathlib.Core.Bool.{Bool, true, false}
 use mathlib.Core.List.{List}
-use Prim.Native.Nat.{ℕ, suc, _+_, _*_, _-_, _/_, _%_, _≤_, _<_}
+use Prim.Native.Nat.{ℕ, _+_, _*_, _-_, _/_, _%_, _≤_, _<_}
 use native.Mathlib.Omega.{arith}
 use native.Mathlib.Numerals.{add-one}
 use borrow.Author.Tests.{eq-eqb, ne-eqb, lt-ltb, le-ltb}
 use lib.Dec.{ltb}
 use lib.ListN.{length, set}
 use lib.Seq.{set-out}
+use Rattle.definition.proofs.Runs.{loop-start}
 use Rattle.outline.specs.Rows.{kindOf, nameOf}
 use Rattle.outline.specs.Tests.{at, isGoto}
 use Rattle.outline.specs.Spans.{lowOf, highOf, widened, noteRow, noteFrom, spansOf, outside, aimedOut}
 use Rattle.outline.specs.Forming.{nought, changedIn}
+use Rattle.outline.proofs.Along.{left-turn, left-end}
 use Rattle.outline.proofs.Verdicts.{label-is, label-not}
 use Rattle.outline.proofs.Moves.{all-clear}
 
@@ -49,15 +51,15 @@ module _ (R : List ℕ) (n i : ℕ) (S : List ℕ) where
   pub note-turn : i < n → (w : ℕ) → w ≡ at R i → (T : List ℕ) → T ≡ noteRow S w i → noteFrom R i (n - i) S ≡ noteFrom R (i + 1) (n - (i + 1)) T
   unfolding noteFrom
   note-turn h w e T q =
-      let s : n - i ≡ suc (n - (i + 1)) = omega arith in
-      ap (λ (f : ℕ). noteFrom R i f S) s ∙ ap₂ (λ (k : ℕ) (Z : List ℕ). noteFrom R k (n - (i + 1)) Z) (sym (add-one i)) (ap (λ (v : ℕ). noteRow S v i) (sym e) ∙ sym q)
+      left-turn (λ (f : ℕ). noteFrom R i f S) i n h
+      ∙ ap₂ (λ (k : ℕ) (Z : List ℕ). noteFrom R k (n - (i + 1)) Z) (sym (add-one i)) (ap (λ (v : ℕ). noteRow S v i) (sym e) ∙ sym q)
 
   pub note-end : n ≤ i → noteFrom R i (n - i) S ≡ S
   unfolding noteFrom
-  note-end h = let s : n - i ≡ 0 = omega arith in ap (λ (f : ℕ). noteFrom R i f S) s
+  note-end = left-end (λ (f : ℕ). noteFrom R i f S) i n
 
 pub note-start : (R : List ℕ) (n : ℕ) (S : List ℕ) → noteFrom R 0 n S ≡ noteFrom R 0 (n - 0) S
-note-start R n S = let s : n ≡ n - 0 = omega arith in ap (λ (f : ℕ). noteFrom R 0 f S) s
+note-start R n S = loop-start (λ (f : ℕ). noteFrom R 0 f S) n n refl
 
 -- the table anew
 pub spans-anew : (R : List ℕ) (n : ℕ) (S T U : List ℕ) → T ≡ changedIn nought S 0 (length S) → U ≡ noteFrom R 0 n T → U ≡ spansOf (length S) R n

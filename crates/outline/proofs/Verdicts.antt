@@ -41,29 +41,49 @@ module _ (w : ℕ) where
   unfolding tooDeep
   deep-other b k x e h l q = q ∙ ap (leb 255) h ∙ sym (ap (λ (z : Bool). cond z (leb 254 (indentOf w)) (leb 255 (indentOf w))) (label-not (λ z. l (e ∙ z))))
 
-  module _ (m d x : ℕ) (ex : x ≡ indentOf w) where
-    -- at depth d or deeper
-    pub judge-deep : d ≤ x → 0 ≡ verdict m d w
-    unfolding verdict stops
-    judge-deep h =
-        let a : d ≤ indentOf w = omega arith in
-        let n : suc (indentOf w) ≡ d → ⊥ = λ e. omega arith in
-        simp (ne-eqb (suc (indentOf w)) d n, le-ltb (indentOf w) d a, and-false)
+  -- ---- which rows end a search at depth d
+  module _ (d x : ℕ) (ex : x ≡ indentOf w) where
+    stops-in : d ≤ x → stops d w ≡ false
+    unfolding stops
+    stops-in h = let a : d ≤ indentOf w = omega arith in simp (le-ltb (indentOf w) d a)
 
     -- further out than a label may stand
-    pub judge-far : x < d → (x + 1 ≡ d → ⊥) → 2 ≡ verdict m d w
-    unfolding verdict stops
-    judge-far h n =
+    stops-far : x < d → (x + 1 ≡ d → ⊥) → stops d w ≡ true
+    unfolding stops
+    stops-far h n =
         let a : indentOf w < d = omega arith in
         let q : suc (indentOf w) ≡ d → ⊥ = λ e. n (omega arith) in
         simp (ne-eqb (suc (indentOf w)) d q, lt-ltb (indentOf w) d a, and-false)
 
+    module _ (k : ℕ) (ek : k ≡ kindOf w) where
+      stops-other : x < d → (k ≡ 1 → ⊥) → stops d w ≡ true
+      unfolding stops
+      stops-other h n = let a : indentOf w < d = omega arith in simp (label-not (λ z. n (ek ∙ z)), lt-ltb (indentOf w) d a)
+
+      stops-label : x + 1 ≡ d → k ≡ 1 → stops d w ≡ false
+      unfolding stops
+      stops-label e l =
+          let a : indentOf w < d = omega arith in
+          let q : suc (indentOf w) ≡ d = omega arith in
+          simp (label-is (sym ek ∙ l), eq-eqb (suc (indentOf w)) d q, lt-ltb (indentOf w) d a)
+
+  -- ---- the scan for a label
+  module _ (m d x : ℕ) (ex : x ≡ indentOf w) where
+    -- no label of this depth
+    judge-not : (x + 1 ≡ d → ⊥) → verdict m d w ≡ cond (stops d w) 2 0
+    unfolding verdict
+    judge-not n = let q : suc (indentOf w) ≡ d → ⊥ = λ e. n (omega arith) in simp (ne-eqb (suc (indentOf w)) d q, and-false)
+
+    pub judge-deep : d ≤ x → 0 ≡ verdict m d w
+    judge-deep h = let n : x + 1 ≡ d → ⊥ = λ e. omega arith in simp (judge-not n, stops-in d x ex h)
+
+    pub judge-far : x < d → (x + 1 ≡ d → ⊥) → 2 ≡ verdict m d w
+    judge-far h n = simp (judge-not n, stops-far d x ex h n)
+
     module _ (e : x + 1 ≡ d) (k : ℕ) (ek : k ≡ kindOf w) where
       pub judge-other : (k ≡ 1 → ⊥) → 2 ≡ verdict m d w
-      unfolding verdict stops labels
-      judge-other n =
-          let a : indentOf w < d = omega arith in
-          simp (label-not (λ z. n (ek ∙ z)), lt-ltb (indentOf w) d a)
+      unfolding verdict labels
+      judge-other n = let h : x < d = omega arith in simp (label-not (λ z. n (ek ∙ z)), stops-other d x ex k ek h n)
 
       module _ (l : k ≡ 1) (v : ℕ) (ev : v ≡ nameOf w) where
         pub judge-hit : v ≡ m → 1 ≡ verdict m d w
@@ -73,62 +93,42 @@ module _ (w : ℕ) where
             simp (label-is (sym ek ∙ l), eq-eqb (nameOf w) m (sym ev ∙ h), eq-eqb (suc (indentOf w)) d q)
 
         pub judge-label : (v ≡ m → ⊥) → 0 ≡ verdict m d w
-        unfolding verdict stops labels
-        judge-label h =
-            let a : indentOf w < d = omega arith in
-            let q : suc (indentOf w) ≡ d = omega arith in
-            simp (label-is (sym ek ∙ l), ne-eqb (nameOf w) m (λ z. h (ev ∙ z)), eq-eqb (suc (indentOf w)) d q, lt-ltb (indentOf w) d a)
+        unfolding verdict labels
+        judge-label h = simp (ne-eqb (nameOf w) m (λ z. h (ev ∙ z)), and-false, stops-label d x ex k ek e l)
 
   -- ---- the search for back edges
   module _ (m d x : ℕ) (ex : x ≡ indentOf w) where
     module _ (h : x < d) where
       pub back-far : (x + 1 ≡ d → ⊥) → 2 ≡ backVerdict m d w
-      unfolding backVerdict stops
-      back-far n =
-          let a : indentOf w < d = omega arith in
-          let q : suc (indentOf w) ≡ d → ⊥ = λ e. n (omega arith) in
-          simp (ne-eqb (suc (indentOf w)) d q, lt-ltb (indentOf w) d a, and-false)
+      unfolding backVerdict
+      back-far n = simp (stops-far d x ex h n)
 
       module _ (k : ℕ) (ek : k ≡ kindOf w) where
         pub back-low : (k ≡ 1 → ⊥) → 2 ≡ backVerdict m d w
-        unfolding backVerdict stops
-        back-low n =
-            let a : indentOf w < d = omega arith in
-            simp (label-not (λ z. n (ek ∙ z)), lt-ltb (indentOf w) d a)
+        unfolding backVerdict
+        back-low n = simp (stops-other d x ex k ek h n)
 
         pub back-label : x + 1 ≡ d → k ≡ 1 → 0 ≡ backVerdict m d w
-        unfolding backVerdict stops
-        back-label e l =
-            let a : indentOf w < d = omega arith in
-            let q : suc (indentOf w) ≡ d = omega arith in
-            let n : indentOf w ≡ d → ⊥ = λ z. omega arith in
-            simp (label-is (sym ek ∙ l), eq-eqb (suc (indentOf w)) d q, lt-ltb (indentOf w) d a, ne-eqb (indentOf w) d n)
+        unfolding backVerdict
+        back-label e l = let n : indentOf w ≡ d → ⊥ = λ z. omega arith in simp (stops-label d x ex k ek e l, ne-eqb (indentOf w) d n)
 
     module _ (h : d ≤ x) where
       pub back-deep : (x ≡ d → ⊥) → 0 ≡ backVerdict m d w
-      unfolding backVerdict stops
-      back-deep n =
-          let a : d ≤ indentOf w = omega arith in
-          let q : indentOf w ≡ d → ⊥ = λ z. n (omega arith) in
-          simp (le-ltb (indentOf w) d a, ne-eqb (indentOf w) d q)
+      unfolding backVerdict
+      back-deep n = let q : indentOf w ≡ d → ⊥ = λ z. n (omega arith) in simp (stops-in d x ex h, ne-eqb (indentOf w) d q)
 
       module _ (k : ℕ) (ek : k ≡ kindOf w) where
         pub back-other : (k ≡ 2 → ⊥) → 0 ≡ backVerdict m d w
-        unfolding backVerdict stops backs
-        back-other n =
-            let a : d ≤ indentOf w = omega arith in
-            simp (le-ltb (indentOf w) d a, cond-not (λ z. n (ek ∙ z)), and-false)
+        unfolding backVerdict backs
+        back-other n = simp (stops-in d x ex h, cond-not (λ z. n (ek ∙ z)), and-false)
 
         module _ (l : k ≡ 2) (v : ℕ) (ev : v ≡ nameOf w) where
           pub back-hit : x ≡ d → v ≡ m → 1 ≡ backVerdict m d w
-          unfolding backVerdict stops backs
+          unfolding backVerdict backs
           back-hit e q =
-              let a : d ≤ indentOf w = omega arith in
               let i : indentOf w ≡ d = omega arith in
-              simp (le-ltb (indentOf w) d a, cond-is (sym ek ∙ l), eq-eqb (indentOf w) d i, eq-eqb (nameOf w) m (sym ev ∙ q))
+              simp (stops-in d x ex h, cond-is (sym ek ∙ l), eq-eqb (indentOf w) d i, eq-eqb (nameOf w) m (sym ev ∙ q))
 
           pub back-name : (v ≡ m → ⊥) → 0 ≡ backVerdict m d w
-          unfolding backVerdict stops backs
-          back-name q =
-              let a : d ≤ indentOf w = omega arith in
-              simp (le-ltb (indentOf w) d a, cond-is (sym ek ∙ l), ne-eqb (nameOf w) m (λ z. q (ev ∙ z)), and-false)
+          unfolding backVerdict backs
+          back-name q = simp (stops-in d x ex h, ne-eqb (nameOf w) m (λ z. q (ev ∙ z)), and-false)

@@ -11,10 +11,12 @@ use lib.ListN.{length, getD, take, drop, set, replicate, length-set, length-take
 use lib.Seq.{take-all, take-length, drop-length, take-at, drop-at, drop-drop, drop-cons, drop-set-lt, take-suc-set, append-snoc, length-take-le, drop-append-add}
 use Rattle.definition.specs.Lists.{only}
 use Rattle.definition.proofs.ListLaws.{total-only, total-length}
+use Rattle.definition.proofs.Runs.{loop-start}
 use Rattle.outline.specs.Rows.{kindOf}
 use Rattle.outline.specs.Tests.{at}
 use Rattle.outline.specs.Spans.{spansOf, aimedOut}
 use Rattle.outline.specs.Forming.{nought, changedIn}
+use Rattle.outline.proofs.Along.{left-turn, left-end}
 use Rattle.outline.proofs.Verdicts.{label-is, label-not}
 use Rattle.outline.proofs.Moves.{zeros}
 use Rattle.passes.specs.Dropping.{keptRow, keptRows, Gathered, gathered, placed, gatherFrom, dropRows}
@@ -47,17 +49,16 @@ module _ (p : ℕ → Bool) (m i : ℕ) (R : List ℕ) (c : ℕ) where
       → gatherFrom p R i (m - i) c ≡ gatherFrom p R′ (i + 1) (m - (i + 1)) c′
   unfolding gatherFrom
   gather-turn h w e b eb c′ R′ q =
-      let s : m - i ≡ suc (m - (i + 1)) = omega arith in
       let g : placed (p (at R i)) R c (at R i) ≡ gathered c′ R′ = ap (λ (x : ℕ). placed (p x) R c x) (sym e) ∙ ap (λ (x : Bool). placed x R c w) (sym eb) ∙ sym q in
-      ap (λ (f : ℕ). gatherFrom p R i f c) s
+      left-turn (λ (f : ℕ). gatherFrom p R i f c) i m h
       ∙ ap₂ (λ (x : ℕ) (g : Gathered). gatherFrom p (g .rows) x (m - (i + 1)) (g .count)) (sym (add-one i)) g
 
   pub gather-end : m ≤ i → gathered c R ≡ gatherFrom p R i (m - i) c
   unfolding gatherFrom
-  gather-end h = let s : m - i ≡ 0 = omega arith in sym (ap (λ (f : ℕ). gatherFrom p R i f c) s)
+  gather-end h = sym (left-end (λ (f : ℕ). gatherFrom p R i f c) i m h)
 
 pub gather-start : (p : ℕ → Bool) (R : List ℕ) (m : ℕ) → gatherFrom p R 0 m 0 ≡ gatherFrom p R 0 (m - 0) 0
-gather-start p R m = let s : m ≡ m - 0 = omega arith in ap (λ (f : ℕ). gatherFrom p R 0 f 0) s
+gather-start p R m = loop-start (λ (f : ℕ). gatherFrom p R 0 f 0) m m refl
 
 -- ---- what the loop comes to
 module _ (p : ℕ → Bool) where

@@ -1,5 +1,5 @@
 -- A try's returns and a sweep's turns, for both passes: what the code answers is what the model says from the same tables.
-use mathlib.Core.Path.{_≡_, refl, sym, ap, ap₂, _∙_}
+use mathlib.Core.Path.{_≡_, refl, sym, ap, ap₂, subst, _∙_}
 use mathlib.Core.Bool.{Bool, true, false, cond, _||_}
 use mathlib.Core.List.{List}
 use Prim.Native.Nat.{ℕ, zero, suc, _+_, _-_, _≤_, _<_}
@@ -8,31 +8,43 @@ use native.Mathlib.Numerals.{add-one}
 use borrow.Author.Tests.{eq-eqb, ne-eqb, lt-ltb, le-ltb, le-leb, lt-leb, leb-false}
 use lib.Dec.{eqb, leb}
 use lib.ListN.{length}
+use Rattle.definition.proofs.Runs.{loop-start}
 use Rattle.outline.specs.Spans.{spansOf}
 use Rattle.outline.specs.Forming.{deepIn}
 use Rattle.passes.specs.declared.sweeps.Passed.the-variants.{TooDeep}
 use Rattle.passes.specs.Regions.{ifGoal, doGoal, formedIf, formedDo}
 use Rattle.passes.specs.Sweeps.{Tried, tried, triedAt, ifTried, doTried, Swept, swept, done, sweepRows, keeps, ifRows, doRows}
 
--- ---- a try, by its goal j, where `full` tells that there is no room
-module _ (R S : List ℕ) (n j : ℕ) (d f : Bool) (Q : List ℕ) (m : ℕ) where
-  pub try-none : j ≡ n → tried 0 R S ≡ triedAt (eqb j n) (d || f) R S Q m
-  unfolding triedAt
-  try-none e = simp (eq-eqb j n e)
+-- ---- a try
+-- what each return of a try says: j is its goal, and a must be a place of the table; Q are the rows formed, m of them
+pub record Returns (R S : List ℕ) (n k j a : ℕ) (Q : List ℕ) (m : ℕ) (t : Tried) : Type 0 where
+  pub none : j ≡ n → tried 0 R S ≡ t
+  pub deep : (j ≡ n → ⊥) → (b : Bool) → b ≡ deepIn R (k + 1) j → b ≡ true → tried 2 R S ≡ t
+  pub full : (j ≡ n → ⊥) → (b : Bool) → b ≡ deepIn R (k + 1) j → b ≡ false → length R ≤ a → tried 2 R S ≡ t
+  pub formed : (j ≡ n → ⊥) → (b : Bool) → b ≡ deepIn R (k + 1) j → b ≡ false → a < length R → (Q′ T : List ℕ) → Q′ ≡ Q → T ≡ spansOf (length S) Q′ m → tried 1 Q′ T ≡ t
 
-  module _ (a : j ≡ n → ⊥) where
-    pub try-deep : d ≡ true → tried 2 R S ≡ triedAt (eqb j n) (d || f) R S Q m
-    unfolding triedAt
-    try-deep e = simp (ne-eqb j n a, e)
+returns : (R S : List ℕ) (n k j a : ℕ) (Q : List ℕ) (m : ℕ) → Returns R S n k j a Q m (triedAt (eqb j n) (deepIn R (k + 1) j || leb (length R) a) R S Q m)
+unfolding triedAt
+returns R S n k j a Q m = record {
+  none = λ e. simp (eq-eqb j n e);
+  deep = λ x b eb e. simp (ne-eqb j n x, sym eb ∙ e);
+  full = λ x b eb e h. simp (ne-eqb j n x, sym eb ∙ e, le-leb (length R) a h);
+  formed = λ x b eb e h Q′ T p q.
+      ap₂ (tried 1) p (q ∙ ap (λ (l : List ℕ). spansOf (length S) l m) p) ∙ sym (simp (ne-eqb j n x, sym eb ∙ e, lt-leb (length R) a h));
+}
 
-    pub try-full : d ≡ false → f ≡ true → tried 2 R S ≡ triedAt (eqb j n) (d || f) R S Q m
-    unfolding triedAt
-    try-full e h = simp (ne-eqb j n a, e, h)
+module _ (R S : List ℕ) (n k j : ℕ) where
+  pub if-returns : j ≡ ifGoal R S n k → Returns R S n k j n (formedIf R n k j) (n + 1) (ifTried R S n k)
+  unfolding ifTried
+  if-returns e =
+      subst (λ (x : ℕ). Returns R S n k j n (formedIf R n k j) (n + 1) (triedAt (eqb x n) (deepIn R (k + 1) x || leb (length R) n) R S (formedIf R n k x) (n + 1))) e
+      (returns R S n k j n (formedIf R n k j) (n + 1))
 
-    pub try-formed : d ≡ false → f ≡ false → (Q′ T : List ℕ) → Q′ ≡ Q → T ≡ spansOf (length S) Q′ m → tried 1 Q′ T ≡ triedAt (eqb j n) (d || f) R S Q m
-    unfolding triedAt
-    try-formed e h Q′ T p q =
-        ap₂ (tried 1) p (q ∙ ap (λ (l : List ℕ). spansOf (length S) l m) p) ∙ sym (simp (ne-eqb j n a, e, h))
+  pub do-returns : j ≡ doGoal R S n k → Returns R S n k j j (formedDo R k j) n (doTried R S n k)
+  unfolding doTried
+  do-returns e =
+      subst (λ (x : ℕ). Returns R S n k j j (formedDo R k j) n (triedAt (eqb x n) (deepIn R (k + 1) x || leb (length R) x) R S (formedDo R k x) n)) e
+      (returns R S n k j j (formedDo R k j) n)
 
 -- what a try says is at most 2; and 1 only where there is room
 tells : (b d f : Bool) (R S Q : List ℕ) (m v : ℕ) (R′ S′ : List ℕ) → tried v R′ S′ ≡ triedAt b (d || f) R S Q m → (v ≤ 2) × (v ≡ 1 → f ≡ false)
@@ -88,26 +100,6 @@ module _ (try : List ℕ → List ℕ → ℕ → ℕ → Tried) (grown : ℕ �
         ap (λ (f : ℕ). sweepRows try grown f R S k n c) left ∙ turn-on (F - (k + 1)) R S k n c h v R′ S′ e q
         ∙ ap (λ (i : ℕ). sweepRows try grown (F - (k + 1)) R′ S′ i (grown n v) (c + v)) (sym (add-one k))
 
--- ---- the try of an if
-module _ (R S : List ℕ) (n k j : ℕ) (e : j ≡ ifGoal R S n k) where
-  if-tried : triedAt (eqb j n) (deepIn R (k + 1) j || leb (length R) n) R S (formedIf R n k j) (n + 1) ≡ ifTried R S n k
-  unfolding ifTried
-  if-tried = ap (λ (x : ℕ). triedAt (eqb x n) (deepIn R (k + 1) x || leb (length R) n) R S (formedIf R n k x) (n + 1)) e
-
-  pub if-try-none : j ≡ n → tried 0 R S ≡ ifTried R S n k
-  if-try-none h = try-none R S n j (deepIn R (k + 1) j) (leb (length R) n) (formedIf R n k j) (n + 1) h ∙ if-tried
-
-  module _ (a : j ≡ n → ⊥) (b : Bool) (eb : b ≡ deepIn R (k + 1) j) where
-    pub if-try-deep : b ≡ true → tried 2 R S ≡ ifTried R S n k
-    if-try-deep q = try-deep R S n j (deepIn R (k + 1) j) (leb (length R) n) (formedIf R n k j) (n + 1) a (sym eb ∙ q) ∙ if-tried
-
-    pub if-try-full : b ≡ false → length R ≤ n → tried 2 R S ≡ ifTried R S n k
-    if-try-full q h = try-full R S n j (deepIn R (k + 1) j) (leb (length R) n) (formedIf R n k j) (n + 1) a (sym eb ∙ q) (le-leb (length R) n h) ∙ if-tried
-
-    pub if-try-formed : b ≡ false → n < length R → (Q T : List ℕ) → Q ≡ formedIf R n k j → T ≡ spansOf (length S) Q (n + 1) → tried 1 Q T ≡ ifTried R S n k
-    if-try-formed q h Q T eq et =
-        try-formed R S n j (deepIn R (k + 1) j) (leb (length R) n) (formedIf R n k j) (n + 1) a (sym eb ∙ q) (lt-leb (length R) n h) Q T eq et ∙ if-tried
-
 -- a region takes one row more, and there is room for it
 pub if-room : (F : ℕ) (R S : List ℕ) (n k v : ℕ) (R′ S′ : List ℕ) → tried v R′ S′ ≡ ifTried R S n k → (v ≡ 2 → ⊥) → n ≤ F → length R ≤ F → (n + v ≤ F) × (v ≤ 1)
 if-room F R S n k v R′ S′ e a h l = let t = if-tells R S n k v R′ S′ e in go v (t .0) (t .1) a
@@ -120,32 +112,16 @@ if-room F R S n k v R′ S′ e a h l = let t = if-tells R S n k v R′ S′ e i
 -- the sweep from the first row; the pass is the sweep with the spans of its rows
 pub sweep-start : (try : List ℕ → List ℕ → ℕ → ℕ → Tried) (grown : ℕ → ℕ → ℕ) (R S : List ℕ) (n F : ℕ)
     → sweepRows try grown F R S 0 n 0 ≡ sweepRows try grown (F - 0) R S 0 n 0
-sweep-start try grown R S n F = let s : F ≡ F - 0 = omega arith in ap (λ (f : ℕ). sweepRows try grown f R S 0 n 0) s
+sweep-start try grown R S n F = loop-start (λ (f : ℕ). sweepRows try grown f R S 0 n 0) F F refl
+
+pass-is : (try : List ℕ → List ℕ → ℕ → ℕ → Tried) (grown : ℕ → ℕ → ℕ) (R S T : List ℕ) (n : ℕ) (z : Swept) → T ≡ spansOf (length S) R n
+    → z ≡ sweepRows try grown (length R + n) R T 0 n 0 → z ≡ sweepRows try grown (length R + n) R (spansOf (length S) R n) 0 n 0
+pass-is try grown R S T n z e h = h ∙ ap (λ (U : List ℕ). sweepRows try grown (length R + n) R U 0 n 0) e
 
 pub if-pass : (R S T : List ℕ) (n : ℕ) (z : Swept) → T ≡ spansOf (length S) R n → z ≡ sweepRows ifTried _+_ (length R + n) R T 0 n 0 → z ≡ ifRows R S n
 unfolding ifRows
-if-pass R S T n z e h = h ∙ ap (λ (U : List ℕ). sweepRows ifTried _+_ (length R + n) R U 0 n 0) e
-
--- ---- the try of a loop
-module _ (R S : List ℕ) (n k j : ℕ) (e : j ≡ doGoal R S n k) where
-  do-tried : triedAt (eqb j n) (deepIn R (k + 1) j || leb (length R) j) R S (formedDo R k j) n ≡ doTried R S n k
-  unfolding doTried
-  do-tried = ap (λ (x : ℕ). triedAt (eqb x n) (deepIn R (k + 1) x || leb (length R) x) R S (formedDo R k x) n) e
-
-  pub do-try-none : j ≡ n → tried 0 R S ≡ doTried R S n k
-  do-try-none h = try-none R S n j (deepIn R (k + 1) j) (leb (length R) j) (formedDo R k j) n h ∙ do-tried
-
-  module _ (a : j ≡ n → ⊥) (b : Bool) (eb : b ≡ deepIn R (k + 1) j) where
-    pub do-try-deep : b ≡ true → tried 2 R S ≡ doTried R S n k
-    do-try-deep q = try-deep R S n j (deepIn R (k + 1) j) (leb (length R) j) (formedDo R k j) n a (sym eb ∙ q) ∙ do-tried
-
-    pub do-try-full : b ≡ false → length R ≤ j → tried 2 R S ≡ doTried R S n k
-    do-try-full q h = try-full R S n j (deepIn R (k + 1) j) (leb (length R) j) (formedDo R k j) n a (sym eb ∙ q) (le-leb (length R) j h) ∙ do-tried
-
-    pub do-try-formed : b ≡ false → j < length R → (Q T : List ℕ) → Q ≡ formedDo R k j → T ≡ spansOf (length S) Q n → tried 1 Q T ≡ doTried R S n k
-    do-try-formed q h Q T eq et =
-        try-formed R S n j (deepIn R (k + 1) j) (leb (length R) j) (formedDo R k j) n a (sym eb ∙ q) (lt-leb (length R) j h) Q T eq et ∙ do-tried
+if-pass = pass-is ifTried _+_
 
 pub do-pass : (R S T : List ℕ) (n : ℕ) (z : Swept) → T ≡ spansOf (length S) R n → z ≡ sweepRows doTried keeps (length R + n) R T 0 n 0 → z ≡ doRows R S n
 unfolding doRows
-do-pass R S T n z e h = h ∙ ap (λ (U : List ℕ). sweepRows doTried keeps (length R + n) R U 0 n 0) e
+do-pass = pass-is doTried keeps

@@ -31,8 +31,9 @@ use Rattle.values.specs.declared.places.Places.{Places}
 use Rattle.values.specs.Keys.{stmtKey, placesOf}
 use Rattle.values.specs.Tables.{at, numbered, table}
 use Rattle.values.proofs.Placed.{at-stmt, keyed-length, stmt-here}
+use Rattle.values.proofs.Tables.{table-read, Names}
 use Rattle.names.specs.Codes.{nameText, nameCode}
-use Rattle.names.proofs.Mentioned.{Mentions, coded-read, root-number}
+use Rattle.names.proofs.Mentioned.{root-number}
 use Rattle.names.proofs.Rooted.{rooted}
 use Rattle.inline.specs.Placing.{placeOf}
 use Rattle.inline.proofs.Forgetting.{in-place}
@@ -93,7 +94,7 @@ module _ (f : List ℕ) (bytes : (k : ℕ) → Fits w8 (getD f k 0)) (t : ℕ) (
   abbrev spot : ℕ
   spot = placesOf f .stmts + i
 
-  mention : Mentions f n spot (target f i)
+  mention : Names f n spot (target f i)
   unfolding stmtKey
   mention = record {
     here = omega (arith, stmt-here f i here, keyed-length f n (told .ground .counts) (told .ground .room), told .ground .room);
@@ -105,7 +106,7 @@ module _ (f : List ℕ) (bytes : (k : ℕ) → Fits w8 (getD f k 0)) (t : ℕ) (
   number = is ∙ ap₂ (λ (l : List ℕ) (Q : Places). at l (Q .stmts + i)) (told .ground .values) (told .ground .where-all)
 
   tells : (g : Value → ℕ) (l : List ℕ) → l ≡ table f n g → at l m ≡ g (target f i)
-  tells g l e = ap₂ at e number ∙ coded-read f n spot (target f i) mention g
+  tells g l e = ap₂ at e number ∙ table-read f n g spot (target f i) mention
 
   module _ (E : Edition) where
     pub gone-is : (r : Bool) → r ≡ goneBy f i (at placed m) → r ≡ isGone E f i
@@ -130,7 +131,7 @@ module _ (f : List ℕ) (bytes : (k : ℕ) → Fits w8 (getD f k 0)) (t : ℕ) (
           let to = rooted f bytes (told .ground .counts) n (told .ground .room) E spot (target f i) mention in
           ap₂ at (classed .read E (offsets (read E f)) section (told .known E section) (classed .rooted E))
           (ap₂ at (classed .rooted E) number ∙ root-number f n (find (classes (read E f))) spot (to .0) (target f i) mention (to .1))
-          ∙ coded-read f n (to .0) (find (classes (read E f)) (target f i)) (to .1) (λ v. cond (within v (readRoots (read E f) (offsets (read E f)) (classes (read E f)))) 1 0)
+          ∙ table-read f n (λ v. cond (within v (readRoots (read E f) (offsets (read E f)) (classes (read E f)))) 1 0) (to .0) (find (classes (read E f)) (target f i)) (to .1)
 
       class-unread : eqb (at marks (at roots m)) 0 ≡ not (within (find (loweringOf E f .classes) (target f i)) (loweringOf E f .readRoots))
       unfolding loweringOf lowering

@@ -3,7 +3,6 @@ use mathlib.Core.Path.{_≡_, refl, sym, ap, ap₂, _∙_}
 use mathlib.Core.Bool.{Bool, false, not, _&&_}
 use mathlib.Core.List.{List, []}
 use Prim.Native.Nat.{ℕ, _≤_, _<_}
-use native.Mathlib.Decide.{ℕ-discrete}
 use native.Mathlib.Omega.{arith}
 use lib.Dec.{eqb}
 use borrow.Author.Tests.{eq-eqb, ne-eqb}
@@ -15,6 +14,7 @@ use Rattle.definition.specs.Read.{treeAt, tree, trees, allTrees, read}
 use Rattle.definition.specs.Offsets.{Known, offsets, stackOff}
 use Rattle.definition.specs.Lower.{isStackLoad}
 use Rattle.records.proofs.Trees.{tree-lower, tree-past}
+use Rattle.reads.proofs.Codes.{by-code}
 use Rattle.lowering.specs.Lowered.{loweringOf}
 use Rattle.lowering.proofs.Gen.{gen-offsets}
 
@@ -31,17 +31,7 @@ module _ (E : Edition) (f : List ℕ) where
 
   load-node : (t : List Expr) (n : ℕ) → isLoad (tree E f t n) ≡ (eqb (exprWord f n 0) 5 && hasOffset (treeAt t (exprWord f n 2)))
   unfolding isStackLoad tree
-  load-node t n = go (ℕ-discrete (exprWord f n 0) 1) (ℕ-discrete (exprWord f n 0) 2) (ℕ-discrete (exprWord f n 0) 3) (ℕ-discrete (exprWord f n 0) 4) (ℕ-discrete (exprWord f n 0) 5)
-    where
-      go : Dec (exprWord f n 0 ≡ 1) → Dec (exprWord f n 0 ≡ 2) → Dec (exprWord f n 0 ≡ 3) → Dec (exprWord f n 0 ≡ 4) → Dec (exprWord f n 0 ≡ 5)
-          → isLoad (tree E f t n) ≡ (eqb (exprWord f n 0) 5 && hasOffset (treeAt t (exprWord f n 2)))
-      go (yes e) b c d g = rw e
-      go (no a) (yes e) c d g = rw e
-      go (no a) (no b) (yes e) d g = rw e
-      go (no a) (no b) (no c) (yes e) g = rw e
-      go (no a) (no b) (no c) (no d) (yes e) = rw e
-      go (no a) (no b) (no c) (no d) (no g) =
-          rw (ne-eqb (exprWord f n 0) 1 a, ne-eqb (exprWord f n 0) 2 b, ne-eqb (exprWord f n 0) 3 c, ne-eqb (exprWord f n 0) 4 d, ne-eqb (exprWord f n 0) 5 g)
+  load-node t n = by-code (exprWord f n 0) (λ e. rw e) (λ e. rw e) (λ e. rw e) (λ e. rw e) (λ e. rw e) (λ e. rw e) (λ a b c d g h. rw (a, b, c, d, g))
 
   module _ (n m : ℕ) (all : m ≡ size f expressions) where
     pub load-past : m ≤ n → false ≡ isLoad (treeAt (allTrees E f) n)

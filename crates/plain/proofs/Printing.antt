@@ -17,8 +17,7 @@ use Rattle.room.specs.Room.{Room, emit, emitAll, seen}
 use Rattle.room.proofs.Laws.{next, joined, one}
 use Rattle.plain.specs.declared.sets.Named.{Named}
 use Rattle.plain.specs.declared.sets.Sets.{Sets}
-use Rattle.plain.specs.declared.sets.Sets.the-variants.{Nothing, One, More}
-use Rattle.plain.specs.Asm.{asmBlock, asmCall, asmOf, otherOf}
+use Rattle.plain.specs.Asm.{asmCall, asmOf, otherOf}
 
 pub between-put : (r₃ r₂ r₁ r₀ : Room) (E : Edition) (f : List ℕ) (t o : ℕ) (x : Text) (l r : List ℕ) → text E ≡ t → o ≡ offset f t → r₁ ≡ emit r₀ (tok 0 l)
     → r₂ ≡ emit r₁ (tok 0 (part f (o + x .start) (x .len))) → r₃ ≡ emit r₂ (tok 0 r)
@@ -29,29 +28,15 @@ between-put r₃ r₂ r₁ r₀ E f t o x l r section off a b c =
     rw (section, ← off)
     (next r₃ r₀ _ _ a (next r₃ r₁ _ _ b (one r₃ r₂ _ c)) ∙ joined r₀ 0 l w (tok 0 r ∷ []) refl ∙ joined r₀ 0 (l ++ w) r [] refl)
 
-pub block-put : (r₂ r₁ r₀ : Room) (x : List ℕ) → r₁ ≡ emit r₀ (tok 3 (txt "__asm")) → seen r₂ ≡ seen (emitAll r₁ (tok 0 (txt " { " ++ x ++ txt " }") ∷ []))
-    → seen r₂ ≡ seen (emitAll r₀ (asmBlock x))
-unfolding asmBlock
-block-put r₂ r₁ r₀ x a b = next r₂ r₀ _ _ a b
-
 pub call-put : (r₄ r₃ r₂ r₁ r₀ : Room) (f : List ℕ) (w : ℕ) (n : Named) (x : List ℕ) → w ≡ bits f
     → r₁ ≡ emit r₀ (tok 1 (nameOr (regName w (n .reg)) (nameText w (n .reg) (n .code)))) → r₂ ≡ emit r₁ (tok 6 (txt " = ")) → r₃ ≡ emit r₂ (tok 3 (txt "__asm"))
     → seen r₄ ≡ seen (emitAll r₃ (tok 0 (txt "(\"" ++ x ++ txt "\");") ∷ [])) → seen r₄ ≡ seen (emitAll r₀ (asmCall (bits f) n x))
 unfolding asmCall
 call-put r₄ r₃ r₂ r₁ r₀ f w n x width a b c d = rw (← width) (next r₄ r₀ _ _ a (next r₄ r₁ _ _ b (next r₄ r₂ _ _ c d)))
 
-module _ (r₁ r₀ : Room) (b : ℕ) (s : Sets) (x : List ℕ) where
-  pub asm-nothing : s ≡ Nothing → seen r₁ ≡ seen (emitAll r₀ (asmBlock x)) → seen r₁ ≡ seen (emitAll r₀ (asmOf b s x))
-  unfolding asmOf
-  asm-nothing e p = rw e p
-
-  pub asm-one : (n : Named) → s ≡ One n → seen r₁ ≡ seen (emitAll r₀ (asmCall b n x)) → seen r₁ ≡ seen (emitAll r₀ (asmOf b s x))
-  unfolding asmOf
-  asm-one n e p = rw e p
-
-  pub asm-more : s ≡ More → seen r₁ ≡ seen (emitAll r₀ (asmBlock x)) → seen r₁ ≡ seen (emitAll r₀ (asmOf b s x))
-  unfolding asmOf
-  asm-more e p = rw e p
+-- by what is set
+pub asm-put : (r₁ r₀ : Room) (b : ℕ) (s k : Sets) (x : List ℕ) → s ≡ k → seen r₁ ≡ seen (emitAll r₀ (asmOf b k x)) → seen r₁ ≡ seen (emitAll r₀ (asmOf b s x))
+asm-put r₁ r₀ b s k x e p = rw e p
 
 -- by the definition, as the search says
 pub other-put : (r₁ r₀ : Room) (E : Edition) (f : List ℕ) (i a n : ℕ) (s : Sets) → a ≡ stmtField f i 0 → n ≡ stmtField f i 1

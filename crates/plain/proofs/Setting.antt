@@ -29,10 +29,10 @@ use Rattle.values.specs.declared.places.Places.{Places}
 use Rattle.values.specs.Keys.{itemKey, placesOf}
 use Rattle.values.specs.Tables.{at, table}
 use Rattle.values.proofs.Placed.{at-item, keyed-length, item-here}
+use Rattle.values.proofs.Tables.{table-read, Names}
 use Rattle.reads.specs.Counts.{readBy, LiveReads, PhiReads}
 use Rattle.reads.proofs.ReadAtAll.{read-by}
 use Rattle.names.specs.Codes.{codeText, nameText, nameCode}
-use Rattle.names.proofs.Mentioned.{Mentions, coded-read}
 use Rattle.render.specs.Told.{Told}
 use Rattle.lowering.specs.Lowered.{loweringOf}
 use Rattle.plain.specs.declared.sets.Sets.{Sets}
@@ -114,7 +114,7 @@ module _ (f : List ℕ) (bytes : (k : ℕ) → Fits w8 (getD f k 0)) (t : ℕ) (
     abbrev spot : ℕ
     spot = placesOf f .items + (from + j)
 
-    mention : Mentions f n spot (val j)
+    mention : Names f n spot (val j)
     unfolding itemKey
     mention = record {
       here = omega (arith, item-here f (told .ground .counts) i j inside here, keyed-length f n (told .ground .counts) (told .ground .room), told .ground .room);
@@ -123,7 +123,7 @@ module _ (f : List ℕ) (bytes : (k : ℕ) → Fits w8 (getD f k 0)) (t : ℕ) (
     }
 
     tells : (g : Value → ℕ) (l : List ℕ) → l ≡ table f n g → at l (at numbers spot) ≡ g (val j)
-    tells g l e = ap₂ (λ (a b : List ℕ). at a (at b spot)) e (told .ground .values) ∙ coded-read f n spot (val j) mention g
+    tells g l e = ap₂ (λ (a b : List ℕ). at a (at b spot)) e (told .ground .values) ∙ table-read f n g spot (val j) mention
 
     module _ (E : Edition) where
       read-is : readBy live phi (at numbers spot) ≡ isRead (loweringOf E f .reads) (val j)

@@ -1,45 +1,26 @@
 -- What each writer's calls put one behind the other is the list of pieces that its contract says, by `next`, `more` and `done`.
-use mathlib.Core.Path.{_≡_, refl, ap, _∙_}
-use mathlib.Core.Bool.{true, false}
+use mathlib.Core.Path.{_≡_, refl, _∙_}
+use mathlib.Core.Bool.{false}
 use mathlib.Core.Option.{Option, none, some}
 use mathlib.Core.List.{List, []}
 use Prim.Native.Nat.{ℕ}
 use borrow.Author.Tests.{eq-eqb, ne-eqb}
-use Rattle.definition.specs.Edition.{Edition, statements}
+use Rattle.definition.specs.Edition.{Edition}
 use Rattle.definition.specs.Texts.{txt}
 use Rattle.definition.specs.Words.{word}
-use Rattle.definition.specs.Contents.{size}
 use Rattle.definition.specs.Owners.{stmtField}
-use Rattle.definition.specs.Shape.{owned}
 use Rattle.definition.specs.Ssa.{Expr}
 use Rattle.definition.specs.Read.{treeAt, allTrees, read}
 use Rattle.definition.specs.Offsets.{offsets, stackOff}
 use Rattle.definition.specs.Numbers.{slot}
-use Rattle.definition.specs.Tokens.{Token, tok}
-use Rattle.definition.specs.Render.{pointer, slotOr, through}
+use Rattle.definition.specs.Tokens.{tok}
+use Rattle.definition.specs.Render.{slotOr}
 use Rattle.definition.specs.Lower.{Lowering, returnTokens}
 use Rattle.room.specs.Room.{Room, emit, emitAll, seen}
 use Rattle.room.proofs.Laws.{next, more, done, one}
-use Rattle.render.specs.Gens.{rendered}
 use Rattle.lowering.specs.Lowered.{loweringOf, exprOf}
-use Rattle.plain.specs.Pieces.{becomes, resultOf, returnOf, throughOf, destinationOf, storeOf}
-use Rattle.lowering.proofs.Gen.{lowering-returns, rendered-is}
-
--- an expression behind all statements
-pub expr-put : (r₁ r₀ : Room) (E : Edition) (f : List ℕ) (pos n : ℕ) → owned f ≡ true → pos ≡ size f statements
-    → seen r₁ ≡ seen (emitAll r₀ (rendered E f pos true n)) → seen r₁ ≡ seen (emitAll r₀ (exprOf E f n))
-expr-put r₁ r₀ E f pos n own p e = e ∙ ap (λ (ts : List Token). seen (emitAll r₀ ts)) (rendered-is E f own pos n p)
-
-module _ (r₃ r₂ r₁ r₀ : Room) (E : Edition) (f : List ℕ) (n : ℕ) where
-  pub becomes-put : r₁ ≡ emit r₀ (tok 6 (txt " = ")) → seen r₂ ≡ seen (emitAll r₁ (exprOf E f n)) → r₃ ≡ emit r₂ (tok 6 (txt ";"))
-      → seen r₃ ≡ seen (emitAll r₀ (becomes E f n))
-  unfolding becomes
-  becomes-put a b c = next r₃ r₀ _ _ a (more r₃ r₂ r₁ _ _ b (one r₃ r₂ _ c))
-
-  pub return-put : r₁ ≡ emit r₀ (tok 3 (txt "return")) → seen r₂ ≡ seen (emitAll r₁ (resultOf E f n)) → r₃ ≡ emit r₂ (tok 6 (txt ";"))
-      → seen r₃ ≡ seen (emitAll r₀ (returnOf E f n))
-  unfolding returnOf
-  return-put a b c = next r₃ r₀ _ _ a (more r₃ r₂ r₁ _ _ b (one r₃ r₂ _ c))
+use Rattle.plain.specs.Pieces.{becomes, resultOf, throughOf, destinationOf, storeOf}
+use Rattle.lowering.proofs.Gen.{lowering-returns}
 
 -- ---- what a Return gives back
 no-result : (L : Lowering) (o : Option Expr) → L .returns ≡ false → returnTokens L o ≡ []
@@ -64,11 +45,6 @@ module _ (E : Edition) (f : List ℕ) (i w : ℕ) (says : w ≡ word f 8) where
 
 -- ---- where a Store stores, and what
 module _ (E : Edition) (f : List ℕ) where
-  pub through-put : (r₄ r₃ r₂ r₁ r₀ : Room) (m n : ℕ) → r₁ ≡ emit r₀ (pointer m) → r₂ ≡ emit r₁ (tok 6 (txt "(")) → seen r₃ ≡ seen (emitAll r₂ (exprOf E f n))
-      → r₄ ≡ emit r₃ (tok 6 (txt ")")) → seen r₄ ≡ seen (emitAll r₀ (throughOf E f m n))
-  unfolding throughOf through
-  through-put r₄ r₃ r₂ r₁ r₀ m n a b c d = next r₄ r₀ _ _ a (next r₄ r₁ _ _ b (more r₄ r₃ r₂ _ _ c (one r₄ r₃ _ d)))
-
   module _ (i n s : ℕ) (is : n ≡ stmtField f i 1) (off : s ≡ stackOff (offsets (read E f)) (treeAt (allTrees E f) n)) (r₁ r₀ : Room) where
     pub into-slot : (s ≡ 0 → ⊥) → r₁ ≡ emit r₀ (tok 1 (slot s)) → seen r₁ ≡ seen (emitAll r₀ (destinationOf E f i))
     unfolding destinationOf slotOr

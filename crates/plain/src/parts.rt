@@ -1,9 +1,7 @@
 // What lines of several kinds have.
 use lowering::kinds::PUNCT;
+use lowering::list::put_expr;
 use pieces::put::put;
-use records::contents::STATEMENTS;
-use records::contents::size_of;
-use render::expr::expr;
 use room::out::Out;
 use values::places::Places;
 use values::read::at_u32;
@@ -14,7 +12,6 @@ ghost use Rattle.definition.specs.Contents.{text as textOf};
 ghost use Rattle.values.specs.Tables.{at};
 ghost use Rattle.room.specs.Room.{roomOf, emitAll, seen};
 ghost use Rattle.render.specs.Told.{Told};
-ghost use Rattle.lowering.specs.Lowered.{exprOf};
 ghost use Rattle.plain.specs.Pieces.{becomes};
 
 // The number of the value at place i behind `base`.
@@ -23,42 +20,6 @@ pub fn number_of(numbers: &[u32], base: usize, i: u32) -> usize
     ensures { λ r. ⌜ r ≡ at (now (numbers .entry)) (base + i) ⌝ }
 {
     at_u32(numbers, base + i as usize) as usize
-}
-
-// Expression n. Behind the last statement every value written in place is open.
-pub fn put_expr(
-    tokens: &mut [u64],
-    text: &mut [u8],
-    out: Out,
-    f: &[u8],
-    t: u32,
-    places: Places,
-    numbers: &[u32],
-    offs: &[u64],
-    placed: &[u32],
-    names: &[u32],
-    n: u32,
-) -> Out
-    requires { ⌜ Told (now f) t places (now numbers) (now offs) (now placed) (now names) ⌝ }
-    ensures { λ r. ⌜ ((E : Edition) → textOf E ≡ t → seen (roomOf (now (tokens .exit)) (now (text .exit)) r)
-        ≡ seen (emitAll (roomOf (now (tokens .entry)) (now (text .entry)) out) (exprOf E (now (f .entry)) n))) ⌝ }
-{
-    let pos = size_of(f, STATEMENTS);
-    expr(
-        tokens,
-        text,
-        out,
-        f,
-        t,
-        places,
-        numbers,
-        offs,
-        placed,
-        names,
-        pos,
-        n,
-        true,
-    )
 }
 
 // ` = E;`

@@ -1,9 +1,9 @@
 // The line of a Return.
-use crate::parts::put_expr;
 use lowering::kinds::KEYWORD;
 use lowering::kinds::PUNCT;
 use lowering::kinds::TEXT;
 use lowering::line::end_stmt;
+use lowering::list::put_expr;
 use pieces::put::put;
 use records::owners::is_dead;
 use records::owners::stmt_field;

@@ -1,9 +1,9 @@
 // The line of a Store.
 use crate::parts::put_becomes;
-use crate::parts::put_expr;
 use calls::pushes::taken_behind;
 use lowering::kinds::PUNCT;
 use lowering::line::end_stmt;
+use lowering::list::put_expr;
 use marks::saves::is_save;
 use meaning::meaning::bits_of;
 use pieces::put::put;

@@ -8,8 +8,7 @@ use lib.ListN.{length, drop, set}
 use Rattle.structure.specs.declared.answers.Counts.{Counts}
 use Rattle.structure.specs.declared.answers.Structured.{Structured}
 use Rattle.structure.specs.declared.answers.Structured.the-variants.{TooDeep, Listed}
-use Rattle.structure.specs.Lowered.{Finishes}
-use Rattle.probe.specs.Numbered.{counted, numberOf, countsOf, Numbered, Exported}
+use Rattle.probe.specs.Numbered.{counted, numberOf, countsOf, Numbered}
 
 six : (c : List ℕ) (a b d e f g : ℕ) → 6 ≤ length c → set (set (set (set (set (set c 0 a) 1 b) 2 d) 3 e) 4 f) 5 g ≡ a ∷ b ∷ d ∷ e ∷ f ∷ g ∷ drop 6 c
 six [] a b d e f g h = absurd (omega arith)
@@ -36,7 +35,3 @@ deep-numbers a c c′ e h = record { number = sym (ap numberOf e); counts = h �
 pub listed-numbers : (a : Structured) (k : Counts) (c c′ : List ℕ) → a ≡ Listed k → c′ ≡ counted c k → Numbered a c 0 c′
 unfolding numberOf countsOf
 listed-numbers a k c c′ e h = record { number = sym (ap numberOf e); counts = h ∙ sym (ap (λ (z : Structured). counted c (countsOf z)) e) }
-
-module _ {ls ks t R S : List ℕ} {n : ℕ} {l d x c : List ℕ} {r : ℕ} {l′ d′ x′ c′ R′ S′ : List ℕ} where
-  pub exported : (a : Structured) → Finishes ls ks t R S n l d x a l′ d′ x′ R′ S′ → Numbered a c r c′ → Exported ls ks t R S n l d x c r l′ d′ x′ c′ R′ S′
-  exported a f m = record { answer = a; finishes = f; numbered = m }

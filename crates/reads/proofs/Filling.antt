@@ -2,14 +2,15 @@
 -- numbers with zeros behind. An expression's Use nodes are its children's, which stand below it.
 use mathlib.Core.Path.{_≡_, refl, sym, ap, _∙_}
 use mathlib.Core.List.{List, [], _∷_, _++_, append-nil}
-use Prim.Native.Nat.{ℕ, zero, suc, _+_, _-_, _≤_, _<_}
-use native.Mathlib.Decide.{decLt}
+use Prim.Native.Nat.{ℕ, suc, _+_, _-_, _≤_, _<_}
 use native.Mathlib.Omega.{arith}
-use lib.ListN.{length, getD, set, replicate, length-append, List·getD-append}
-use lib.Seq.{append-snoc, getD-at}
+use lib.ListN.{length, getD, set, replicate, length-append}
+use lib.Seq.{append-snoc}
 use borrow.Author.Tests.{ne-eqb, lt-ltb, le-ltb}
 use Rattle.definition.specs.Contents.{exprWord}
 use Rattle.definition.specs.Listing.{padded}
+use Rattle.definition.proofs.Runs.{run-append, run-then}
+use Rattle.records.proofs.Trees.{grown-at, grown-past}
 use Rattle.records.proofs.Padded.{padded-set, length-padded}
 use Rattle.reads.specs.Uses.{nodeUses, usesBelow}
 use Rattle.reads.specs.Filling.{Filling, filling, put, putAll, usesUnder}
@@ -25,14 +26,18 @@ put-out l k x h = rw (le-ltb k (length l) h)
 
 pub put-append : (r : Filling) (xs ys : List ℕ) → putAll r (xs ++ ys) ≡ putAll (putAll r xs) ys
 unfolding putAll
-put-append r [] ys = refl
-put-append r (x ∷ xs) ys = put-append (put r x) xs ys
+put-append = run-append putAll put (λ r. refl) (λ r x xs. refl)
 
 -- one run behind another
 pub put-more : (p q r : Filling) (xs ys : List ℕ) → q ≡ putAll p xs → r ≡ putAll q ys → r ≡ putAll p (xs ++ ys)
-put-more p q r xs ys a b = b ∙ ap (λ (s : Filling). putAll s ys) a ∙ sym (put-append p xs ys)
+unfolding putAll
+put-more = run-then putAll put (λ r. refl) (λ r x xs. refl)
 
 -- ---- into zeros
+-- the next number, behind those that stand there
+pub padded-next : (n : ℕ) (xs : List ℕ) (i x : ℕ) → length xs ≡ i → i < n → set (padded n xs) i x ≡ padded n (xs ++ (x ∷ []))
+padded-next n xs i x e h = ap (λ (k : ℕ). set (padded n xs) k x) (sym e) ∙ padded-set n xs x (omega arith)
+
 pub padded-none : (n : ℕ) → replicate n 0 ≡ padded n []
 unfolding padded
 padded-none n = let a : n - 0 ≡ n = omega arith in sym (rw a)
@@ -55,35 +60,13 @@ filled n xs h =
     ap (λ (l : List ℕ). putAll (filling l 0) xs) (padded-none n) ∙ filled-on n xs [] (omega arith) ∙ ap (filling (padded n xs)) a
 
 -- ---- the Use nodes of an expression
-pub below-length : (f : List ℕ) (n : ℕ) → length (usesBelow f n) ≡ n
-unfolding usesBelow
-below-length f zero = refl
-below-length f (suc n) = omega (arith, length-append (usesBelow f n) (nodeUses f (usesBelow f n) n ∷ []), below-length f n)
-
-last-at : (t : List (List ℕ)) (x z : List ℕ) (n i : ℕ) → length t ≡ n → i < suc n → (i < n → getD t i [] ≡ z) → (i ≡ n → x ≡ z) → getD (t ++ (x ∷ [])) i [] ≡ z
-last-at t x z n i e h below last = go (decLt i n)
-  where
-    go : Dec (i < n) → getD (t ++ (x ∷ [])) i [] ≡ z
-    go (yes k) = List·getD-append t (x ∷ []) [] i (omega arith) ∙ below k
-    go (no k) = let q : i ≡ n = omega arith in getD-at t x [] [] i (e ∙ sym q) ∙ last q
-
-below-at : (f : List ℕ) (n i : ℕ) → i < n → getD (usesBelow f n) i [] ≡ nodeUses f (usesBelow f i) i
-unfolding usesBelow
-below-at f zero i h = absurd (omega arith)
-below-at f (suc n) i h = last-at (usesBelow f n) (nodeUses f (usesBelow f n) n) (nodeUses f (usesBelow f i) i) n i (below-length f n) h (below-at f n i) (λ q. rw q)
-
-none-at : (t : List (List ℕ)) (i : ℕ) → length t ≤ i → getD t i [] ≡ []
-none-at [] i h = refl
-none-at (x ∷ t) zero h = absurd (omega arith)
-none-at (x ∷ t) (suc i) h = none-at t i (omega arith)
-
 pub under-none : (f : List ℕ) (b x : ℕ) → b ≤ x → usesUnder f b x ≡ []
-unfolding usesUnder
-under-none f b x h = none-at (usesBelow f b) x (omega (arith, below-length f b))
+unfolding usesUnder usesBelow
+under-none f = grown-past (usesBelow f) (λ n. nodeUses f (usesBelow f n) n) refl (λ n. refl) []
 
 pub under-is : (f : List ℕ) (b x : ℕ) → x < b → usesUnder f b x ≡ nodeUses f (usesBelow f x) x
-unfolding usesUnder
-under-is f b x h = below-at f b x h
+unfolding usesUnder usesBelow
+under-is f = grown-at (usesBelow f) (λ n. nodeUses f (usesBelow f n) n) refl (λ n. refl) []
 
 pub put-none : (f : List ℕ) (b x : ℕ) (r : Filling) → b ≤ x → r ≡ putAll r (usesUnder f b x)
 unfolding putAll
@@ -109,13 +92,17 @@ module _ (f : List ℕ) (b x t : ℕ) (p : Filling) (tag : t ≡ exprWord f x 0)
         put-more p q r (getD (usesBelow f x) i []) (getD (usesBelow f x) j []) g h
         ∙ ap (putAll p) (rw (m, n) (sym (under-is f b x below ∙ rw (sym tag ∙ e))))
 
+    -- of one child
+    put-child : (i : ℕ) → usesUnder f x i ≡ nodeUses f (usesBelow f x) x → r ≡ putAll p (usesUnder f x i) → r ≡ putAll p (usesUnder f b x)
+    put-child i e h = h ∙ ap (putAll p) (e ∙ sym (under-is f b x below))
+
     pub put-un : (i : ℕ) → t ≡ 4 → i ≡ exprWord f x 3 → r ≡ putAll p (usesUnder f x i) → r ≡ putAll p (usesUnder f b x)
     unfolding nodeUses usesUnder
-    put-un i e m h = h ∙ ap (putAll p) (rw m (sym (under-is f b x below ∙ rw (sym tag ∙ e))))
+    put-un i e m = put-child i (rw (sym tag ∙ e, m))
 
     pub put-load : (i : ℕ) → t ≡ 5 → i ≡ exprWord f x 2 → r ≡ putAll p (usesUnder f x i) → r ≡ putAll p (usesUnder f b x)
     unfolding nodeUses usesUnder
-    put-load i e m h = h ∙ ap (putAll p) (rw m (sym (under-is f b x below ∙ rw (sym tag ∙ e))))
+    put-load i e m = put-child i (rw (sym tag ∙ e, m))
 
 -- a bound falls with the expression that it bounds
 pub falls-to : (x b t : ℕ) → b ≡ t → x < b → x < t

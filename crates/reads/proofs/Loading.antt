@@ -3,26 +3,23 @@ use mathlib.Core.Path.{_≡_, refl, sym, ap, ap₂, _∙_}
 use mathlib.Core.Bool.{Bool, true, false, cond, _||_}
 use mathlib.Core.List.{List, [], _∷_, _++_, map}
 use Prim.Native.Nat.{ℕ, zero, suc, _+_, _-_, _≤_, _<_}
-use native.Mathlib.Decide.{ℕ-discrete}
 use native.Mathlib.Omega.{arith}
 use lib.Dec.{eqb}
-use lib.ListN.{length, set, replicate, length-append}
+use lib.ListN.{length, set, replicate}
 use borrow.Author.Tests.{ne-eqb}
-use Rattle.definition.specs.Codes.{tConst, tUse, tBin, tUn, tLoad}
 use Rattle.definition.specs.Edition.{Edition, expressions}
-use Rattle.definition.specs.Contents.{size, exprWord, exprLong, textAt}
-use Rattle.definition.specs.Values.{value}
+use Rattle.definition.specs.Contents.{size, exprWord}
 use Rattle.definition.specs.Ssa.{Expr}
-use Rattle.definition.specs.Ssa.Expr.{Const, Use, Bin, Un, Load, Opaque}
-use Rattle.definition.specs.Read.{treeAt, opText, tree, trees, allTrees}
+use Rattle.definition.specs.Ssa.Expr.{Opaque}
+use Rattle.definition.specs.Read.{treeAt, tree, trees, allTrees}
 use Rattle.definition.specs.Inline.{hasLoad}
 use Rattle.definition.specs.Listing.{padded}
-use Rattle.records.proofs.Padded.{padded-set}
+use Rattle.records.proofs.Trees.{grown-length, by-tag}
 use Rattle.values.specs.Tables.{at}
 use Rattle.values.proofs.Ranges.{zeros-at}
 use Rattle.reads.specs.Loads.{loadOf, loadsBelow, loadBit}
-use Rattle.reads.proofs.Trees.{Both, none-left, and-then, both-append, both-at}
-use Rattle.reads.proofs.Filling.{padded-none}
+use Rattle.reads.proofs.Filling.{padded-next}
+use Rattle.reads.proofs.Trees.{Both, none-left, and-then, beside-trees}
 
 -- ---- the table and the trees
 module _ (E : Edition) (f : List ℕ) where
@@ -42,27 +39,19 @@ module _ (E : Edition) (f : List ℕ) where
       go false d = refl
 
   node-says : (l : List ℕ) (u : List Expr) → ((i : ℕ) → Says (at l i) (treeAt u i)) → (n : ℕ) → Says (loadOf f l n) (tree E f u n)
-  unfolding loadOf tree loadBit hasLoad
+  unfolding loadOf loadBit hasLoad
   node-says l u h n =
       let g = exprWord f n 0 in
-      go g (exprWord f n) (ℕ-discrete g 1) (ℕ-discrete g 2) (ℕ-discrete g 3) (ℕ-discrete g 4) (ℕ-discrete g 5)
-    where
-      go : (g : ℕ) (w : ℕ → ℕ) → Dec (g ≡ 1) → Dec (g ≡ 2) → Dec (g ≡ 3) → Dec (g ≡ 4) → Dec (g ≡ 5)
-          → cond (eqb g tLoad) 1 (cond (eqb g tUn) (at l (w 3)) (cond (eqb g tBin) (cond (eqb (at l (w 3)) 1) 1 (at l (w 4))) 0))
-          ≡ loadBit (cond (eqb g tConst) (Const (exprLong f n 1)) (cond (eqb g tUse) (Use (value (exprWord f n 1) (exprWord f n 2)))
-          (cond (eqb g tBin) (Bin (opText E f n) (treeAt u (w 3)) (treeAt u (w 4))) (cond (eqb g tUn) (Un (opText E f n) (treeAt u (w 3)))
-          (cond (eqb g tLoad) (Load (w 1) (treeAt u (w 2))) (Opaque (textAt E f (exprWord f n 1) (exprWord f n 2))))))))
-      go g w (yes e) b c d k = rw e
-      go g w (no a) (yes e) c d k = rw e
-      go g w (no a) (no b) (yes e) d k = rw e (either-says (at l (w 3)) (at l (w 4)) (treeAt u (w 3)) (treeAt u (w 4)) (h (w 3)) (h (w 4)))
-      go g w (no a) (no b) (no c) (yes e) k = rw e (h (w 3))
-      go g w (no a) (no b) (no c) (no d) (yes e) = rw e
-      go g w (no a) (no b) (no c) (no d) (no k) = rw (ne-eqb g 1 a, ne-eqb g 2 b, ne-eqb g 3 c, ne-eqb g 4 d, ne-eqb g 5 k)
+      let i = exprWord f n 3 in
+      let j = exprWord f n 4 in
+      by-tag E f u n (Says (loadOf f l n)) (λ e. rw e) (λ e. rw e)
+      (λ e. rw e (either-says (at l i) (at l j) (treeAt u i) (treeAt u j) (h i) (h j)))
+      (λ e. rw e (h i)) (λ e. rw e)
+      (λ a b c d k. rw (ne-eqb g 3 c, ne-eqb g 4 d, ne-eqb g 5 k))
 
   tables-say : (n : ℕ) → Both Says (loadsBelow f n) (trees E f n)
-  unfolding loadsBelow trees at
-  tables-say zero = none-left
-  tables-say (suc n) = let r = tables-say n in both-append r (and-then (node-says (loadsBelow f n) (trees E f n) (both-at r none-says) n) none-left)
+  unfolding loadsBelow at
+  tables-say = beside-trees Says 0 (loadsBelow f) (loadOf f) refl (λ n. refl) E f none-says node-says
 
 all-say : {l : List ℕ} {xs : List Expr} → Both (λ a x. a ≡ loadBit x) l xs → l ≡ map loadBit xs
 all-say none-left = refl
@@ -109,23 +98,13 @@ module _ (f l : List ℕ) (i t : ℕ) (tag : t ≡ exprWord f i 0) where
 unfoldable pub loaded : List ℕ → ℕ → ℕ → List ℕ
 loaded f n i = padded n (loadsBelow f i)
 
-pub load-start : (f l : List ℕ) → l ≡ replicate (length l) 0 → l ≡ loaded f (length l) 0
-unfolding loaded loadsBelow
-load-start f l e = e ∙ padded-none (length l)
-
-below-length : (f : List ℕ) (n : ℕ) → length (loadsBelow f n) ≡ n
-unfolding loadsBelow
-below-length f zero = refl
-below-length f (suc n) = omega (arith, length-append (loadsBelow f n) (loadOf f (loadsBelow f n) n ∷ []), below-length f n)
-
 pub load-turn : (f l : List ℕ) (n m i x : ℕ) → m ≡ size f expressions → i < m → size f expressions ≤ n → l ≡ loaded f n i → x ≡ loadOf f l i → set l i x ≡ loaded f n (i + 1)
 unfolding loaded loadsBelow
 load-turn f l n m i x c h room e p =
     let s : i + 1 ≡ suc i = omega arith in
-    let k = below-length f i in
+    let k = grown-length (loadsBelow f) (λ n. loadOf f (loadsBelow f n) n) refl (λ n. refl) i in
     let v : x ≡ loadOf f (loadsBelow f i) i = p ∙ ap (λ (z : List ℕ). loadOf f z i) e ∙ same-of f n (loadsBelow f i) i in
-    let u : set (padded n (loadsBelow f i)) (length (loadsBelow f i)) x ≡ padded n (loadsBelow f i ++ (x ∷ [])) = padded-set n (loadsBelow f i) x (omega arith) in
-    rw (e, s) (rw k at u ∙ ap (λ (y : ℕ). padded n (loadsBelow f i ++ (y ∷ []))) v)
+    rw (e, s) (padded-next n (loadsBelow f i) i x k (omega arith) ∙ ap (λ (y : ℕ). padded n (loadsBelow f i ++ (y ∷ []))) v)
 
 pub load-end : (f l : List ℕ) (n m i : ℕ) → m ≡ size f expressions → i ≤ m → m ≤ i → l ≡ loaded f n i → (E : Edition) → l ≡ padded n (map (λ x. cond (hasLoad x) 1 0) (allTrees E f))
 unfolding loaded allTrees loadBit

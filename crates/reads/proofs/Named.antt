@@ -17,9 +17,9 @@ use Rattle.definition.proofs.Bools.{by-test}
 use Rattle.definition.proofs.ListLaws.{Each, end, _▸_}
 use Rattle.words.proofs.Laws.{word-small}
 use Rattle.definition.proofs.Equal.{eqv-true}
-use Rattle.values.specs.Keys.{keyOf, exprKey, placesOf, keyed}
+use Rattle.values.specs.Keys.{exprKey, placesOf}
 use Rattle.values.specs.Tables.{at, numbered, table}
-use Rattle.values.proofs.Tables.{table-read, table-write, table-same, eqv-swap}
+use Rattle.values.proofs.Tables.{table-read, table-write, table-same, eqv-swap, Names}
 use Rattle.values.proofs.Placed.{at-expr, expr-here, keyed-length}
 use Rattle.reads.specs.Uses.{useValue}
 use Rattle.reads.specs.Counts.{raised, placed, visit, slots}
@@ -28,23 +28,21 @@ use Rattle.reads.proofs.Nodes.{IsUse}
 use Rattle.reads.proofs.Visits.{place-is}
 
 -- s is the number of a place that names v, among the first n
-pub record Names (f : List ℕ) (n s : ℕ) (v : Value) : Type 0 where
+pub record StandsFor (f : List ℕ) (n s : ℕ) (v : Value) : Type 0 where
   pub spot : ℕ
-  pub here : spot < length (keyed f n)
-  pub is : at (keyed f n) spot ≡ keyOf v
-  pub small : v .ver < 4294967296
+  pub by : Names f n spot v
   pub number : s ≡ at (numbered f n) spot
 
 module _ (f : List ℕ) (n : ℕ) where
   -- ---- one visit
-  placed-table : (g : Value → ℕ) (s x : ℕ) (v : Value) → Names f n s v → placed x (table f n g) s ≡ table f n (λ w. cond (eqv v w) x (g w))
+  placed-table : (g : Value → ℕ) (s x : ℕ) (v : Value) → StandsFor f n s v → placed x (table f n g) s ≡ table f n (λ w. cond (eqv v w) x (g w))
   unfolding placed
-  placed-table g s x v k = rw (k .number) (table-write f n g (k .spot) (v .reg) (v .ver) (k .here) (k .is) (k .small) x)
+  placed-table g s x v k = rw (k .number) (table-write f n g (k .spot) v (k .by) x)
 
-  raised-table : (g : Value → ℕ) (s : ℕ) (v : Value) → Names f n s v → g v < 4294967295 → raised (table f n g) s ≡ table f n (λ w. cond (eqv v w) (g v + 1) (g w))
+  raised-table : (g : Value → ℕ) (s : ℕ) (v : Value) → StandsFor f n s v → g v < 4294967295 → raised (table f n g) s ≡ table f n (λ w. cond (eqv v w) (g v + 1) (g w))
   unfolding raised
   raised-table g s v k h =
-      let e : at (table f n g) s ≡ g v = ap (at (table f n g)) (k .number) ∙ table-read f n g (k .spot) (v .reg) (v .ver) (k .here) (k .is) (k .small) in
+      let e : at (table f n g) s ≡ g v = ap (at (table f n g)) (k .number) ∙ table-read f n g (k .spot) v (k .by) in
       let p = placed-table g s (g v + 1) v k in
       rw (e, lt-ltb (g v) 4294967295 h) (place-is (table f n g) (set (table f n g) s (g v + 1)) s (g v + 1) refl ∙ p)
 
@@ -59,7 +57,7 @@ module _ (f : List ℕ) (n : ℕ) where
   still-fits : (g : Value → ℕ) (v w : Value) (m : ℕ) → g v + suc m ≤ 4294967295 → g w + suc m ≤ 4294967295 → cond (eqv v w) (g v + 1) (g w) + m ≤ 4294967295
   still-fits g v w m h k = by-test (eqv v w) (λ e. rw e (omega arith)) (λ e. rw e (omega arith))
 
-  pub raise-all : {ss : List ℕ} {vs : List Value} → Both (Names f n) ss vs → (g : Value → ℕ) → ((w : Value) → g w + length vs ≤ 4294967295)
+  pub raise-all : {ss : List ℕ} {vs : List Value} → Both (StandsFor f n) ss vs → (g : Value → ℕ) → ((w : Value) → g w + length vs ≤ 4294967295)
       → visit raised (table f n g) ss ≡ table f n (λ w. g w + count (eqv w) vs)
   unfolding visit count
   raise-all none-left g h = table-same f n g (λ w. g w + 0) (λ w. omega arith)
@@ -83,7 +81,7 @@ module _ (f : List ℕ) (n : ℕ) where
   unfolding within any
   none-within x y w = refl
 
-  pub mark-all : {ss : List ℕ} {vs : List Value} → Both (Names f n) ss vs → (x : ℕ) (g : Value → ℕ)
+  pub mark-all : {ss : List ℕ} {vs : List Value} → Both (StandsFor f n) ss vs → (x : ℕ) (g : Value → ℕ)
       → visit (placed x) (table f n g) ss ≡ table f n (λ w. cond (within w vs) x (g w))
   unfolding visit
   mark-all none-left x g = table-same f n g (λ w. cond (within w []) x (g w)) (λ w. none-within x (g w) w)
@@ -94,17 +92,19 @@ module _ (f : List ℕ) (n : ℕ) where
 
 -- ---- the Use nodes name their values
 module _ (f : List ℕ) (n : ℕ) (own : owned f ≡ true) (room : placesOf f .total ≤ n) (bytes : (k : ℕ) → Fits w8 (getD f k 0)) where
-  pub use-named : (m : ℕ) → IsUse f m → Names f n (at (numbered f n) (placesOf f .exprs + m)) (useValue f m)
+  pub use-named : (m : ℕ) → IsUse f m → StandsFor f n (at (numbered f n) (placesOf f .exprs + m)) (useValue f m)
   unfolding useValue exprKey
   use-named m u = record {
     spot = placesOf f .exprs + m;
-    here = omega (arith, keyed-length f n own room, expr-here f m (u .1));
-    is = at-expr f n own m (u .1) ∙ rw (u .0);
-    small = word-small f bytes (place f 6 5 m 2);
+    by = record {
+      here = omega (arith, keyed-length f n own room, expr-here f m (u .1));
+      is = at-expr f n own m (u .1) ∙ rw (u .0);
+      small = word-small f bytes (place f 6 5 m 2);
+    };
     number = refl;
   }
 
-  pub uses-named : {ns : List ℕ} → Each (IsUse f) ns → Both (Names f n) (slots (numbered f n) (placesOf f .exprs) ns) (map (useValue f) ns)
+  pub uses-named : {ns : List ℕ} → Each (IsUse f) ns → Both (StandsFor f n) (slots (numbered f n) (placesOf f .exprs) ns) (map (useValue f) ns)
   unfolding slots
   uses-named end = none-left
   uses-named (_▸_ {x = m} u h) = and-then (use-named m u) (uses-named h)

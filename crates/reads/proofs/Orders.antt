@@ -1,6 +1,6 @@
 -- The roots of a statement, and the statements of the file, are gone through in order: what is put so far, or is left to put, is a run of them.
 use mathlib.Core.Path.{_≡_, refl, sym, ap, _∙_}
-use mathlib.Core.List.{List, [], _∷_, _++_, map, map-append}
+use mathlib.Core.List.{List, [], _∷_, map, map-append}
 use Prim.Native.Nat.{ℕ, suc, _+_, _-_, _≤_, _<_}
 use native.Mathlib.Omega.{arith}
 use lib.ListN.{length, set, replicate}
@@ -9,15 +9,15 @@ use Rattle.definition.specs.Lists.{gather, range}
 use Rattle.definition.specs.Contents.{size}
 use Rattle.definition.specs.Owners.{firstItem}
 use Rattle.definition.specs.Listing.{padded}
+use Rattle.definition.proofs.Runs.{each-turn, each-end}
 use Rattle.records.proofs.Below.{sum-le}
 use Rattle.records.proofs.Ranges.{range-last, gather-last}
-use Rattle.records.proofs.Padded.{padded-set}
 use Rattle.references.specs.Named.{rootCount, rootAt}
-use Rattle.references.proofs.Naming.{roots-are}
+use Rattle.references.proofs.Naming.{names-start, roots-are}
 use Rattle.values.proofs.Ranges.{map-length, gather-length}
 use Rattle.reads.specs.Uses.{usesIn, stmtUses, useOrder, useStart, useStarts}
 use Rattle.reads.specs.Filling.{Filling, filling, putAll, usesUnder}
-use Rattle.reads.proofs.Filling.{put-append, put-more, filled, padded-none}
+use Rattle.reads.proofs.Filling.{put-append, put-more, padded-next, filled}
 
 -- ---- the roots of statement i, of which m are left from the j-th on
 unfoldable pub rootUses : List ℕ → ℕ → ℕ → ℕ → ℕ → List ℕ
@@ -25,18 +25,20 @@ rootUses f i first j m = gather (usesIn f) (map (rootAt f i first) (range j m))
 
 pub stmt-start : (f : List ℕ) (i first n : ℕ) (p : Filling) → first ≡ firstItem f i → n ≡ rootCount f i → putAll p (stmtUses f i) ≡ putAll p (rootUses f i first 0 (n - 0))
 unfolding stmtUses rootUses
-stmt-start f i first n p a e = let s : n - 0 ≡ n = omega arith in rw (s, e, a) (ap (λ (l : List ℕ). putAll p (gather (usesIn f) l)) (roots-are f i))
+stmt-start f i first n p a e = names-start (λ (l : List ℕ). putAll p (gather (usesIn f) l)) (rootAt f i first) (roots-are f i first a) e
 
 pub stmt-turn : (f : List ℕ) (i first b n j x : ℕ) (p q : Filling) → j < n → b ≡ size f expressions → x ≡ rootAt f i first j → q ≡ putAll p (usesUnder f b x)
     → putAll p (rootUses f i first j (n - j)) ≡ putAll q (rootUses f i first (j + 1) (n - (j + 1)))
-unfolding rootUses range gather usesIn usesUnder
+unfolding rootUses usesIn usesUnder gather putAll
 stmt-turn f i first b n j x p q h e a g =
-    let s : n - j ≡ suc (n - (j + 1)) = omega arith in
-    rw (s, g, e, a) (put-append p (usesIn f (rootAt f i first j)) (gather (usesIn f) (map (rootAt f i first) (range (j + 1) (n - (j + 1))))))
+    each-turn (λ (r : Filling) (l : List ℕ). putAll r (gather (usesIn f) l)) (λ (r : Filling) (y : ℕ). putAll r (usesIn f y)) (λ r. refl)
+    (λ r y l. put-append r (usesIn f y) (gather (usesIn f) l)) (rootAt f i first) p q j n h (rw (g, e, a))
 
 pub stmt-end : (f : List ℕ) (i first n j : ℕ) (p r : Filling) → n ≤ j → r ≡ putAll p (rootUses f i first j (n - j)) → p ≡ r
 unfolding rootUses range gather putAll
-stmt-end f i first n j p r h e = let s : n - j ≡ 0 = omega arith in sym (e ∙ rw s)
+stmt-end f i first n j p r h e =
+    each-end (λ (r : Filling) (l : List ℕ). putAll r (gather (usesIn f) l)) (λ (r : Filling) (y : ℕ). putAll r (usesIn f y)) (λ r. refl)
+    (λ r y l. put-append r (usesIn f y) (gather (usesIn f) l)) (rootAt f i first) p r j n h e
 
 -- ---- the statements before i: their nodes, and where those of each begin
 unfoldable pub usesBefore : List ℕ → ℕ → List ℕ
@@ -59,19 +61,14 @@ before-turn f i p q r a b =
     let s : i + 1 ≡ suc i = omega arith in
     put-more p q r (gather (stmtUses f) (range 0 i)) (stmtUses f i) a b ∙ ap (putAll p) (rw s (sym (gather-last (stmtUses f) i)))
 
-pub starts-start : (f l : List ℕ) → l ≡ replicate (length l) 0 → l ≡ startsBefore f (length l) 0
-unfolding startsBefore range
-starts-start f l e = e ∙ padded-none (length l)
-
 pub starts-turn : (f : List ℕ) (m n i x : ℕ) (l : List ℕ) → n ≡ size f statements → i ≤ n → suc (size f statements) ≤ m → x ≡ useStart f i → l ≡ startsBefore f m i
     → set l i x ≡ startsBefore f m (i + 1)
 unfolding startsBefore
 starts-turn f m n i x l c h room e a =
     let s : i + 1 ≡ suc i = omega arith in
-    let k = map-length (useStart f) 0 i in
-    let u : set (padded m (map (useStart f) (range 0 i))) (length (map (useStart f) (range 0 i))) (useStart f i) ≡ padded m (map (useStart f) (range 0 i) ++ (useStart f i ∷ [])) =
-    padded-set m (map (useStart f) (range 0 i)) (useStart f i) (omega arith) in
-    rw (a, e, s, range-last i) (rw k at u ∙ ap (padded m) (sym (map-append (useStart f) (range 0 i) (i ∷ []))))
+    rw (a, e, s, range-last i)
+    (padded-next m (map (useStart f) (range 0 i)) i (useStart f i) (map-length (useStart f) 0 i) (omega arith)
+    ∙ ap (padded m) (sym (map-append (useStart f) (range 0 i) (i ∷ []))))
 
 pub start-length : (f : List ℕ) (i : ℕ) → length (usesBefore f i) ≡ useStart f i
 unfolding usesBefore useStart

@@ -25,7 +25,7 @@ use Rattle.values.proofs.Placed.{at-input, input-here, keyed-length}
 use Rattle.values.proofs.Tables.{zeros-are}
 use Rattle.reads.specs.Counts.{placed, visit, slots, Numbers}
 use Rattle.reads.proofs.Trees.{Both, none-left, and-then, both-append}
-use Rattle.reads.proofs.Named.{Names, mark-all}
+use Rattle.reads.proofs.Named.{StandsFor, mark-all}
 
 -- ---- lists side by side
 module _ {A : Type 0} {B : Type 0} {P : A → B → Type 0} where
@@ -56,17 +56,19 @@ module _ (f : List ℕ) (n : ℕ) (own : owned f ≡ true) (room : placesOf f .t
   inputSlot : ℕ → ℕ
   inputSlot k = at (numbered f n) (placesOf f .inputs + k)
 
-  input-named : (i j : ℕ) → i < size f phis → j < phiInputs f i → Names f n (inputSlot (firstInput f i + j)) (inputValue i (firstInput f i + j))
+  input-named : (i j : ℕ) → i < size f phis → j < phiInputs f i → StandsFor f n (inputSlot (firstInput f i + j)) (inputValue i (firstInput f i + j))
   unfolding inputKey inputValue inputSlot
   input-named i j h k = record {
     spot = placesOf f .inputs + (firstInput f i + j);
-    here = omega (arith, keyed-length f n own room, input-here f own i j h k);
-    is = at-input f n i j h k;
-    small = word-small f bytes (place f 3 1 (firstInput f i + j) 0);
+    by = record {
+      here = omega (arith, keyed-length f n own room, input-here f own i j h k);
+      is = at-input f n i j h k;
+      small = word-small f bytes (place f 3 1 (firstInput f i + j) 0);
+    };
     number = refl;
   }
 
-  inputs-named : Both (Names f n) (gather (λ i. map inputSlot (range (firstInput f i) (phiInputs f i))) (range 0 (size f phis)))
+  inputs-named : Both (StandsFor f n) (gather (λ i. map inputSlot (range (firstInput f i) (phiInputs f i))) (range 0 (size f phis)))
       (gather (λ i. map (inputValue i) (range (firstInput f i) (phiInputs f i))) (range 0 (size f phis)))
   inputs-named = both-gather _ _ (size f phis) (λ i h. both-range inputSlot (inputValue i) (phiInputs f i) (firstInput f i) (λ j k. input-named i j h k))
 

@@ -22,7 +22,7 @@ use Rattle.definition.specs.Inline.{reads}
 use Rattle.definition.proofs.Bools.{by-test, is-false}
 use Rattle.definition.proofs.ListLaws.{any-count, any-none}
 use Rattle.defined.proofs.Ranges.{count-gather}
-use Rattle.records.proofs.Below.{sum-turn, sum-le}
+use Rattle.records.proofs.Below.{sum-part}
 use Rattle.values.specs.Keys.{placesOf}
 use Rattle.values.specs.Tables.{numbered, table}
 use Rattle.values.proofs.Tables.{table-same, zeros-are}
@@ -61,10 +61,6 @@ module _ (f : List ℕ) where
   unfolding lastReader
   readers-end n m i t p h k e = let q : i ≡ size f statements = omega arith in e ∙ rw q
 
--- a part of a sum is no greater
-sum-part : (g : ℕ → ℕ) (n i : ℕ) → i < n → g i ≤ sumBelow n g
-sum-part g n i h = omega (arith, sum-turn g {i = i} refl refl, sum-le g (i + 1) n (omega arith))
-
 -- ---- a value that is read once
 module _ (f : List ℕ) (v : Value) where
   -- how often live statement i reads it
@@ -97,7 +93,7 @@ module _ (f : List ℕ) (v : Value) where
   reader-le (suc n) = let r = reader-le n in by-test (readsAt f v n) (λ e. rw e (omega arith)) (λ e. rw e (omega arith))
 
   none-read : (n i : ℕ) → sumBelow n times ≡ 0 → i < n → readsAt f v i ≡ false
-  none-read n i z h = is-false (readsAt f v i) (λ e. let k = reads-some i e in let l = sum-part times n i h in absurd (omega arith))
+  none-read n i z h = is-false (readsAt f v i) (λ e. let k = reads-some i e in let l = sum-part times {i = i} n h refl refl in absurd (omega arith))
 
   once-read : (n i : ℕ) → sumBelow n times ≡ 1 → i < n → readsAt f v i ≡ eqb (readerBelow f n v) (suc i)
   unfolding sumBelow readerBelow

@@ -1,7 +1,7 @@
 -- The loops that visit places: a run of visits goes on where it stopped. The Use nodes of a statement stand in the list of all from its start on.
 use mathlib.Core.Path.{_≡_, refl, sym, ap, _∙_}
 use mathlib.Core.Bool.{Bool, true, false}
-use mathlib.Core.List.{List, [], _∷_, _++_, map, map-append}
+use mathlib.Core.List.{List, [], _∷_, map}
 use Prim.Native.Nat.{ℕ, zero, suc, _+_, _-_, _≤_, _<_}
 use native.Mathlib.Omega.{arith}
 use lib.ListN.{length, getD, set, replicate}
@@ -13,7 +13,8 @@ use Rattle.definition.specs.Lists.{gather, range, sumBelow}
 use Rattle.definition.specs.Contents.{size}
 use Rattle.definition.specs.Read.{marked}
 use Rattle.definition.specs.Listing.{padded}
-use Rattle.records.proofs.Below.{sum-turn, sum-le}
+use Rattle.definition.proofs.Runs.{each-turn, each-end, lists-turn, lists-end, loop-start}
+use Rattle.records.proofs.Below.{sum-turn, sum-part}
 use Rattle.records.proofs.Items.{size-small}
 use Rattle.values.specs.Keys.{placesOf}
 use Rattle.values.specs.Tables.{at}
@@ -80,9 +81,8 @@ unfolding padded useOrder useStart
 node-at f order m i j e h k =
     let g = stmtUses f in
     let n = size f statements in
-    let t = sum-turn (λ (x : ℕ). length (g x)) {i = i} refl refl in
     let b : sumBelow i (λ (x : ℕ). length (g x)) + j < length (gather g (range 0 n)) =
-    omega (arith, gather-length g n, sum-le (λ (x : ℕ). length (g x)) (i + 1) n (omega arith)) in
+    omega (arith, gather-length g n, sum-part (λ (x : ℕ). length (g x)) {i = i} n h refl refl) in
     ap (λ (l : List ℕ). at l (sumBelow i (λ (x : ℕ). length (g x)) + j)) e
     ∙ at-left (gather g (range 0 n)) (replicate (m - length (gather g (range 0 n))) 0) (sumBelow i (λ (x : ℕ). length (g x)) + j) b
     ∙ at-gather g n i j h k
@@ -109,22 +109,41 @@ ordered-runs f order₀ starts₀ order starts o p q h = record {
   long = omega arith;
 }
 
--- ---- runs of steps
+-- ---- runs of steps, at places and at the numbers of nodes
 module _ (step : List ℕ → ℕ → List ℕ) where
-  pub visit-append : (is js l : List ℕ) → visit step l (is ++ js) ≡ visit step (visit step l is) js
+  visit-none : (l : List ℕ) → visit step l [] ≡ l
   unfolding visit
-  visit-append [] js l = refl
-  visit-append (i ∷ is) js l = visit-append is js (step l i)
+  visit-none l = refl
+
+  visit-next : (l : List ℕ) (i : ℕ) (is : List ℕ) → visit step l (i ∷ is) ≡ visit step (step l i) is
+  unfolding visit
+  visit-next l i is = refl
+
+  module _ (numbers : List ℕ) (base : ℕ) where
+    abbrev nodes : List ℕ → List ℕ → List ℕ
+    nodes l ns = visit step l (slots numbers base ns)
+
+    abbrev node : List ℕ → ℕ → List ℕ
+    node l n = step l (at numbers (base + n))
+
+    nodes-none : (l : List ℕ) → nodes l [] ≡ l
+    unfolding visit slots
+    nodes-none l = refl
+
+    nodes-next : (l : List ℕ) (n : ℕ) (ns : List ℕ) → nodes l (n ∷ ns) ≡ nodes (node l n) ns
+    unfolding visit slots
+    nodes-next l n ns = refl
 
   -- the nodes from j to b
   pub run-turn : (numbers order : List ℕ) (base j b n x : ℕ) (t u : List ℕ) → j < b → n ≡ at order j → x ≡ at numbers (base + n) → u ≡ step t x
       → visit step t (slots numbers base (between order j b)) ≡ visit step u (slots numbers base (between order (j + 1) b))
-  unfolding visit slots between range
-  run-turn numbers order base j b n x t u h e p q = let s : b - j ≡ suc (b - (j + 1)) = omega arith in rw (s, q, p, e)
+  unfolding between
+  run-turn numbers order base j b n x t u h e p q =
+      each-turn (nodes numbers base) (node numbers base) (nodes-none numbers base) (nodes-next numbers base) (at order) t u j b h (rw (q, p, e))
 
   pub run-end : (numbers order : List ℕ) (base j b : ℕ) (t r : List ℕ) → b ≤ j → r ≡ visit step t (slots numbers base (between order j b)) → t ≡ r
-  unfolding visit slots between range
-  run-end numbers order base j b t r h e = let s : b - j ≡ 0 = omega arith in sym (e ∙ rw s)
+  unfolding between
+  run-end numbers order base j b t r = each-end (nodes numbers base) (node numbers base) (nodes-none numbers base) (nodes-next numbers base) (at order) t r j b
 
   -- statement i, by whether it is dead
   module _ (f numbers : List ℕ) (base i : ℕ) (dead : Bool) (says : dead ≡ marked f i 1) (t : List ℕ) where
@@ -139,29 +158,27 @@ module _ (step : List ℕ → ℕ → List ℕ) where
         g ∙ ap (λ (ns : List ℕ). visit step t (slots numbers base ns)) (rw (sym says ∙ e) (stmt-run f order starts i a b r h p q))
 
   -- the live statements from i on
-  pub live-turn : (f numbers : List ℕ) (base n i : ℕ) (t u : List ℕ) → i < n → u ≡ visit step t (slots numbers base (liveUses f i))
-      → visit step t (slots numbers base (liveFrom f i (n - i))) ≡ visit step u (slots numbers base (liveFrom f (i + 1) (n - (i + 1))))
-  unfolding slots liveFrom gather range
-  live-turn f numbers base n i t u h e =
-      let s : n - i ≡ suc (n - (i + 1)) = omega arith in
-      let g : ℕ → ℕ = λ n. at numbers (base + n) in
-      let l = gather (liveUses f) (range (i + 1) (n - (i + 1))) in
-      rw (s, e) (ap (visit step t) (map-append g (liveUses f i) l) ∙ visit-append (map g (liveUses f i)) (map g l) t)
+  module _ (f numbers : List ℕ) (base n : ℕ) where
+    pub live-turn : (i : ℕ) (t u : List ℕ) → i < n → u ≡ visit step t (slots numbers base (liveUses f i))
+        → visit step t (slots numbers base (liveFrom f i (n - i))) ≡ visit step u (slots numbers base (liveFrom f (i + 1) (n - (i + 1))))
+    unfolding liveFrom
+    live-turn i t u = lists-turn (nodes numbers base) (node numbers base) (nodes-none numbers base) (nodes-next numbers base) (liveUses f) t u i n
 
-  pub live-end : (f numbers : List ℕ) (base n i : ℕ) (t r : List ℕ) → n ≤ i → r ≡ visit step t (slots numbers base (liveFrom f i (n - i))) → t ≡ r
-  unfolding visit slots liveFrom gather range
-  live-end f numbers base n i t r h e = let s : n - i ≡ 0 = omega arith in sym (e ∙ rw s)
+    pub live-end : (i : ℕ) (t r : List ℕ) → n ≤ i → r ≡ visit step t (slots numbers base (liveFrom f i (n - i))) → t ≡ r
+    unfolding liveFrom
+    live-end i t r = lists-end (nodes numbers base) (node numbers base) (nodes-none numbers base) (nodes-next numbers base) (liveUses f) t r i n
 
-  pub live-start : (f numbers : List ℕ) (base n : ℕ) (t : List ℕ) → n ≡ size f statements
-      → visit step t (slots numbers base (liveFrom f 0 (size f statements))) ≡ visit step t (slots numbers base (liveFrom f 0 (n - 0)))
-  live-start f numbers base n t e = let s : n - 0 ≡ size f statements = omega arith in rw s
+    pub live-start : (t : List ℕ) → n ≡ size f statements
+        → visit step t (slots numbers base (liveFrom f 0 (size f statements))) ≡ visit step t (slots numbers base (liveFrom f 0 (n - 0)))
+    live-start t = loop-start (λ (m : ℕ). nodes numbers base t (liveFrom f 0 m)) n (size f statements)
 
   -- places one behind the other
-  pub each-turn : (numbers : List ℕ) (base n k x : ℕ) (t u : List ℕ) → k < n → x ≡ at numbers (base + k) → u ≡ step t x
-      → visit step t (slots numbers base (range k (n - k))) ≡ visit step u (slots numbers base (range (k + 1) (n - (k + 1))))
-  unfolding visit slots range
-  each-turn numbers base n k x t u h e p = let s : n - k ≡ suc (n - (k + 1)) = omega arith in rw (s, p, e)
+  module _ (numbers : List ℕ) (base n k : ℕ) where
+    pub row-turn : (x : ℕ) (t u : List ℕ) → k < n → x ≡ at numbers (base + k) → u ≡ step t x
+        → visit step t (slots numbers base (range k (n - k))) ≡ visit step u (slots numbers base (range (k + 1) (n - (k + 1))))
+    unfolding slots
+    row-turn x t u h e p = each-turn (visit step) step visit-none visit-next (λ (i : ℕ). at numbers (base + i)) t u k n h (rw (p, e))
 
-  pub each-end : (numbers : List ℕ) (base n k : ℕ) (t r : List ℕ) → n ≤ k → r ≡ visit step t (slots numbers base (range k (n - k))) → t ≡ r
-  unfolding visit slots range
-  each-end numbers base n k t r h e = let s : n - k ≡ 0 = omega arith in sym (e ∙ rw s)
+    pub row-end : (t r : List ℕ) → n ≤ k → r ≡ visit step t (slots numbers base (range k (n - k))) → t ≡ r
+    unfolding slots
+    row-end t r = each-end (visit step) step visit-none visit-next (λ (i : ℕ). at numbers (base + i)) t r k n

@@ -64,9 +64,13 @@ module _ (g : ℕ → ℕ) where
   sum-le i zero h = let q : i ≡ 0 = omega arith in rw q (omega arith)
   sum-le i (suc n) h = by-last (sumBelow i g ≤ sumBelow n g + g n) i (suc n) (omega arith) (λ k. omega (arith, sum-le i n (omega arith))) (λ q. rw q (omega arith))
 
+  -- what one of n ends with is no more than all have
+  pub sum-part : {i s x : ℕ} (n : ℕ) → i < n → s ≡ sumBelow i g → x ≡ g i → s + x ≤ sumBelow n g
+  sum-part {i} n h p q = omega (arith, sum-turn p q, sum-le (i + 1) n (omega arith))
+
   -- what passes m before n are summed, passes it then
   pub sum-over : {i s x : ℕ} (n m : ℕ) → i < n → s ≡ sumBelow i g → x ≡ g i → m < s + x → false ≡ eqb (sumBelow n g) m
-  sum-over {i} n m h p q k = sym (ne-eqb (sumBelow n g) m (λ e. omega (arith, sum-turn p q, sum-le (i + 1) n (omega arith))))
+  sum-over n m h p q k = sym (ne-eqb (sumBelow n g) m (λ e. omega (arith, sum-part n h p q)))
 
 -- the sums of two, place by place
 pub sum-add : (g h : ℕ → ℕ) (n : ℕ) → sumBelow n g + sumBelow n h ≡ sumBelow n (λ i. g i + h i)

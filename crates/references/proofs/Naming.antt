@@ -12,8 +12,8 @@ use Rattle.definition.specs.Contents.{size, itemWord, exprWord}
 use Rattle.definition.specs.Lists.{all, range}
 use Rattle.definition.specs.Owners.{stmtKind, stmtField, exprItems, firstItem}
 use Rattle.definition.specs.References.{children, roots, itemExprs, childrenLower, rootsInside}
+use Rattle.definition.proofs.Runs.{loop-start}
 use Rattle.references.specs.Named.{childCount, childAt, rootCount, rootAt}
-use Rattle.references.specs.Tally.{tally}
 
 -- ---- children, by the tag that was read
 module _ (f : List ℕ) (i t : ℕ) (tag : t ≡ exprWord f i 0) where
@@ -52,7 +52,7 @@ count-few f i = go (eqb (exprWord f i 0) 3) (eqb (exprWord f i 0) 4) (eqb (exprW
     go false false true = omega arith
     go false false false = omega arith
 
-children-are : (f : List ℕ) (i : ℕ) → children f i ≡ map (childAt f i) (range 0 (childCount f i))
+pub children-are : (f : List ℕ) (i : ℕ) → children f i ≡ map (childAt f i) (range 0 (childCount f i))
 unfolding children childAt childCount range
 children-are f i = go (exprWord f i 0) (exprWord f i) (ℕ-discrete (exprWord f i 0) 3) (ℕ-discrete (exprWord f i 0) 4) (ℕ-discrete (exprWord f i 0) 5)
   where
@@ -111,11 +111,11 @@ module _ (f : List ℕ) (i k : ℕ) (kind : k ≡ stmtKind f i) where
     unfolding rootAt
     item-root a b c d h = rw (← kind, ne-eqb k 1 a, ne-eqb k 2 b, ne-eqb k 5 c, ne-eqb k 6 d) h
 
-pub roots-are : (f : List ℕ) (i : ℕ) → roots f i ≡ map (rootAt f i (firstItem f i)) (range 0 (rootCount f i))
+pub roots-are : (f : List ℕ) (i first : ℕ) → first ≡ firstItem f i → roots f i ≡ map (rootAt f i first) (range 0 (rootCount f i))
 unfolding roots itemExprs rootAt rootCount range
-roots-are f i =
+roots-are f i first p =
     let k = stmtKind f i in
-    go (eqb k 1) (eqb k 2) (eqb k 5) (eqb k 6) (eqb (stmtField f i 0) 1)
+    rw p (go (eqb k 1) (eqb k 2) (eqb k 5) (eqb k 6) (eqb (stmtField f i 0) 1))
   where
     go : (a b c d e : Bool)
         → cond a (stmtField f i 2 ∷ []) (cond b (stmtField f i 1 ∷ stmtField f i 2 ∷ []) (cond c (stmtField f i 1 ∷ stmtField f i 2 ∷ [])
@@ -150,21 +150,15 @@ pub below-end : (g : ℕ → ℕ) (b n k : ℕ) → n ≤ k → true ≡ namesBe
 unfolding namesBelow all range
 below-end g b n k h = let s : n - k ≡ 0 = omega arith in rw s
 
+-- what is made of all names is made of those from the first on
+pub names-start {ℓ} : {B : Type ℓ} (h : List ℕ → B) (g : ℕ → ℕ) {n m : ℕ} {xs : List ℕ} → xs ≡ map g (range 0 m) → n ≡ m → h xs ≡ h (map g (range 0 (n - 0)))
+names-start h g {n} {m} p e = ap h p ∙ loop-start (λ (k : ℕ). h (map g (range 0 k))) n m e
+
 pub lower-start : (f : List ℕ) (i n : ℕ) → n ≡ childCount f i → childrenLower f i ≡ namesBelow (childAt f i) i 0 (n - 0)
 unfolding childrenLower namesBelow
-lower-start f i n e = let s : n - 0 ≡ n = omega arith in rw (s, e) (ap (all (λ (c : ℕ). ltb c i)) (children-are f i))
+lower-start f i n e = names-start (all (λ (c : ℕ). ltb c i)) (childAt f i) (children-are f i) e
 
 pub inside-start : (f : List ℕ) (i first b n : ℕ) → first ≡ firstItem f i → b ≡ size f expressions → n ≡ rootCount f i
     → rootsInside f i ≡ namesBelow (rootAt f i first) b 0 (n - 0)
 unfolding rootsInside namesBelow
-inside-start f i first b n p q e =
-    let s : n - 0 ≡ n = omega arith in
-    rw (s, e, p, q) (ap (all (λ (c : ℕ). ltb c (size f expressions))) (roots-are f i))
-
--- ---- the tally of a record's names begins
-pub children-start : (f : List ℕ) (i n : ℕ) (t : List ℕ) → n ≡ childCount f i → tally t (children f i) ≡ tally t (map (childAt f i) (range 0 (n - 0)))
-children-start f i n t e = let s : n - 0 ≡ n = omega arith in rw (s, e) (ap (tally t) (children-are f i))
-
-pub roots-start : (f : List ℕ) (i first n : ℕ) (t : List ℕ) → first ≡ firstItem f i → n ≡ rootCount f i
-    → tally t (roots f i) ≡ tally t (map (rootAt f i first) (range 0 (n - 0)))
-roots-start f i first n t p e = let s : n - 0 ≡ n = omega arith in rw (s, e, p) (ap (tally t) (roots-are f i))
+inside-start f i first b n p q e = rw q (names-start (all (λ (c : ℕ). ltb c (size f expressions))) (rootAt f i first) (roots-are f i first p) e)

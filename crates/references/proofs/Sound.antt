@@ -21,9 +21,10 @@ use Rattle.references.specs.declared.references.Records.the-variants.{Na
 use Rattle.references.specs.declared.references.Text.{Text}
 use Rattle.references.specs.declared.references.Text.the-variants.{Absent, Any, Filled}
 use Rattle.references.specs.Texts.{recordWord, textOf, textInside, textsSound}
-use Rattle.references.specs.Tally.{ownersAt, tally, Answered}
+use Rattle.references.specs.Tally.{ownersAt, mentioned, tally, Answered}
+use Rattle.definition.proofs.Runs.{run-then}
 use Rattle.records.proofs.Also.{also}
-use Rattle.references.proofs.Tally.{both-runs, tally-keeps, tally-once}
+use Rattle.references.proofs.Tally.{tally-none, tally-next, tally-keeps, tally-once}
 
 -- ---- bytes
 pub low : (b : ℕ) → b < 32 → false ≡ printable b
@@ -134,7 +135,7 @@ module _ (f t t₁ t₂ t₃ t₄ : List ℕ) (n : ℕ) (r : Bool)
   unfolding ownedOnce mentions
   once-says =
       let m = gather (roots f) (range 0 (size f statements)) ++ gather (children f) (range 0 (size f expressions)) in
-      let s : t₃ ≡ tally (replicate (length t) 0) m = both-runs _ _ t₁ t₂ t₃ b c ∙ ap (λ (l : List ℕ). tally l m) a in
+      let s : t₃ ≡ tally (replicate (length t) 0) m = run-then tally mentioned tally-none tally-next t₁ t₂ t₃ _ _ b c ∙ ap (λ (l : List ℕ). tally l m) a in
       h ∙ ap (λ (l : List ℕ). allBelow n (λ e. eqb (ownersAt l e) 1)) s ∙ tally-once (length t) m n k
       ∙ ap (λ (j : ℕ). allBelow j (λ e. eqb (count (eqb e) m) 1)) d
 
@@ -171,8 +172,6 @@ sound-is : (E : Edition) (f : List ℕ) → not (sound E f) ≡ refused5 E f
 unfolding refused5 textsSound
 sound-is E f = ap not (in-order _ _ _ _)
 
-pub refuse : (E : Edition) (f : List ℕ) → false ≡ sound E f → true ≡ refused5 E f
-refuse E f e = ap not e ∙ sound-is E f
-
-pub last : (E : Edition) (f : List ℕ) (t : Bool) → t ≡ sound E f → not t ≡ refused5 E f
-last E f t e = ap not e ∙ sound-is E f
+-- by the tests up to the one that fails, or by them all
+pub answer : (E : Edition) (f : List ℕ) (t : Bool) → t ≡ sound E f → not t ≡ refused5 E f
+answer E f t e = ap not e ∙ sound-is E f

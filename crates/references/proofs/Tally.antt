@@ -1,8 +1,8 @@
 -- What the table of owners holds after all mentions: entries of 1 are the expressions that are mentioned once.
 use mathlib.Core.Path.{_≡_, refl, sym, ap, _∙_}
 use mathlib.Core.Bool.{cond}
-use mathlib.Core.List.{List, [], _∷_, _++_, map}
-use Prim.Native.Nat.{ℕ, zero, suc, _+_, _-_, _≤_, _<_}
+use mathlib.Core.List.{List, [], _∷_}
+use Prim.Native.Nat.{ℕ, zero, suc, _-_, _≤_, _<_}
 use native.Mathlib.Decide.{ℕ-discrete}
 use native.Mathlib.Omega.{arith}
 use lib.Dec.{eqb}
@@ -10,6 +10,7 @@ use lib.ListN.{length, getD, set, replicate, length-set, length-replicate, getD-
 use lib.Seq.{getD-set-same, getD-set-other, set-out}
 use borrow.Author.Tests.{eq-eqb, ne-eqb}
 use Rattle.definition.specs.Lists.{count, gather, range, allBelow}
+use Rattle.definition.proofs.Runs.{loop-start}
 use Rattle.references.specs.Tally.{ownersAt, more, mentioned, tally}
 use Rattle.records.proofs.Below.{all-same}
 
@@ -47,40 +48,18 @@ tally-length (e ∷ es) t = tally-length es (mentioned t e) ∙ mention-length t
 pub tally-keeps : (t u v es : List ℕ) → u ≡ tally t es → length t ≡ length v → length u ≡ length v
 tally-keeps t u v es p h = ap length p ∙ tally-length es t ∙ h
 
-tally-append : (xs ys t : List ℕ) → tally t (xs ++ ys) ≡ tally (tally t xs) ys
+-- a tally is a run
+pub tally-none : (t : List ℕ) → tally t [] ≡ t
 unfolding tally
-tally-append [] ys t = refl
-tally-append (x ∷ xs) ys t = tally-append xs ys (mentioned t x)
+tally-none t = refl
 
-pub both-runs : (xs ys t u v : List ℕ) → u ≡ tally t xs → v ≡ tally u ys → v ≡ tally t (xs ++ ys)
-both-runs xs ys t u v p q = q ∙ ap (λ (l : List ℕ). tally l ys) p ∙ sym (tally-append xs ys t)
+pub tally-next : (t : List ℕ) (e : ℕ) (es : List ℕ) → tally t (e ∷ es) ≡ tally (mentioned t e) es
+unfolding tally
+tally-next t e es = refl
 
--- the loop over the names of one record: what is left of it
-module _ (g : ℕ → ℕ) (n : ℕ) where
-  pub names-turn : (k : ℕ) (t u : List ℕ) (e : ℕ) → k < n → e ≡ g k → u ≡ mentioned t e
-      → tally t (map g (range k (n - k))) ≡ tally u (map g (range (k + 1) (n - (k + 1))))
-  unfolding tally range
-  names-turn k t u e h p q = let s : n - k ≡ suc (n - (k + 1)) = omega arith in rw (s, q, p)
-
-  pub names-end : (k : ℕ) (t u : List ℕ) → n ≤ k → u ≡ tally t (map g (range k (n - k))) → t ≡ u
-  unfolding tally range
-  names-end k t u h e = let s : n - k ≡ 0 = omega arith in sym (e ∙ rw s)
-
--- the loop over the records
-module _ (g : ℕ → List ℕ) (n : ℕ) where
-  pub runs-start : (m : ℕ) (t : List ℕ) → n ≡ m → tally t (gather g (range 0 m)) ≡ tally t (gather g (range 0 (n - 0)))
-  runs-start m t e = let s : n - 0 ≡ m = omega arith in rw s
-
-  pub runs-turn : (i : ℕ) (t u : List ℕ) → i < n → u ≡ tally t (g i)
-      → tally t (gather g (range i (n - i))) ≡ tally u (gather g (range (i + 1) (n - (i + 1))))
-  unfolding gather range
-  runs-turn i t u h e =
-      let s : n - i ≡ suc (n - (i + 1)) = omega arith in
-      rw (s, e) (tally-append (g i) (gather g (range (i + 1) (n - (i + 1)))) t)
-
-  pub runs-end : (i : ℕ) (t u : List ℕ) → n ≤ i → u ≡ tally t (gather g (range i (n - i))) → t ≡ u
-  unfolding tally gather range
-  runs-end i t u h e = let s : n - i ≡ 0 = omega arith in sym (e ∙ rw s)
+-- and begins with all of n records
+pub runs-start : (g : ℕ → List ℕ) (n m : ℕ) (t : List ℕ) → n ≡ m → tally t (gather g (range 0 m)) ≡ tally t (gather g (range 0 (n - 0)))
+runs-start g n m t = loop-start (λ (k : ℕ). tally t (gather g (range 0 k))) n m
 
 -- ---- what an entry says
 -- after n mentions more

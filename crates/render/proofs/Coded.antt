@@ -15,18 +15,15 @@ use Rattle.definition.specs.Registers.{regName}
 use Rattle.definition.specs.Numbers.{decimal}
 use Rattle.definition.specs.Lookup.{nameOr}
 use Rattle.definition.specs.Read.{read}
-use Rattle.definition.specs.Tokens.{tok}
 use Rattle.definition.specs.Render.{variable}
 use Rattle.classes.proofs.Theorems.{root-register}
 use Rattle.names.specs.Codes.{codeText, nameText, nameCode}
 use Rattle.names.proofs.Texts.{names-are}
-use Rattle.room.specs.Room.{Room, emit}
-use Rattle.room.proofs.Laws.{piece-as}
 use Rattle.render.specs.Gens.{genAt}
 use Rattle.render.proofs.Opening.{gen-bits, gen-names}
 
 module _ (bits r c : ℕ) where
-  own-name : c < 2 → regName bits r ≡ nameOr (regName bits r) (nameText bits r c)
+  pub own-name : c < 2 → regName bits r ≡ nameOr (regName bits r) (nameText bits r c)
   unfolding nameText codeText nameOr
   own-name h = go (ℕ-discrete c 0)
     where
@@ -34,24 +31,13 @@ module _ (bits r c : ℕ) where
       go (yes e) = rw e
       go (no n) = let q : c ≡ 1 = omega (arith, n) in rw q
 
-  letter-a : 2 ≤ c → c % 2 ≡ 0 → txt "a" ++ decimal (c / 2) ≡ nameOr (regName bits r) (nameText bits r c)
+  pub letter-a : 2 ≤ c → c % 2 ≡ 0 → txt "a" ++ decimal (c / 2) ≡ nameOr (regName bits r) (nameText bits r c)
   unfolding nameText codeText nameOr
   letter-a h e = rw (ne-eqb c 0 (λ q. omega arith), ne-eqb c 1 (λ q. omega arith), e)
 
-  letter-v : 2 ≤ c → (c % 2 ≡ 0 → ⊥) → txt "v" ++ decimal (c / 2) ≡ nameOr (regName bits r) (nameText bits r c)
+  pub letter-v : 2 ≤ c → (c % 2 ≡ 0 → ⊥) → txt "v" ++ decimal (c / 2) ≡ nameOr (regName bits r) (nameText bits r c)
   unfolding nameText codeText nameOr
   letter-v h n = rw (ne-eqb c 0 (λ q. omega arith), ne-eqb c 1 (λ q. omega arith), ne-eqb (c % 2) 0 n)
-
-  -- the returns of `put_code`
-  module _ (x y : Room) where
-    pub code-own : c < 2 → x ≡ emit y (tok 1 (regName bits r)) → x ≡ emit y (tok 1 (nameOr (regName bits r) (nameText bits r c)))
-    code-own h e = piece-as y x 1 _ _ e (own-name h)
-
-    pub code-a : 2 ≤ c → c % 2 ≡ 0 → x ≡ emit y (tok 1 (txt "a" ++ decimal (c / 2))) → x ≡ emit y (tok 1 (nameOr (regName bits r) (nameText bits r c)))
-    code-a h q e = piece-as y x 1 _ _ e (letter-a h q)
-
-    pub code-v : 2 ≤ c → (c % 2 ≡ 0 → ⊥) → x ≡ emit y (tok 1 (txt "v" ++ decimal (c / 2))) → x ≡ emit y (tok 1 (nameOr (regName bits r) (nameText bits r c)))
-    code-v h q e = piece-as y x 1 _ _ e (letter-v h q)
 
 -- a value's variable is what its code says
 pub variable-coded : (E : Edition) (f : List ℕ) (pos : ℕ) (v : Value)

@@ -32,7 +32,7 @@ use Rattle.ssa.specs.Node.{useRecord, nodeRecord, nodeTag}
 use Rattle.ssa.specs.View.{viewNode}
 use Rattle.ssa.proofs.Views.{node-view}
 use Rattle.defined.specs.declared.value.Value.{Value as ValueS}
-use Rattle.render.specs.declared.form.Leaf.the-variants.{Number, Address, Global, Slot, Opaque}
+use Rattle.render.specs.declared.form.Leaf.the-variants.{Number, Global, Opaque}
 use Rattle.render.specs.declared.form.Form.{Form}
 use Rattle.render.specs.declared.form.Form.the-variants.{Leaf, Use, Bin, Un, Through}
 use Rattle.render.specs.Gens.{genAt, rendered, used}
@@ -197,21 +197,12 @@ module _ (E : Edition) (f : List ℕ) where
       form-is top = ap (expr G top) (tree-node n here) ∙ form-node top (nodeRecord f n) refl
 
 -- ---- the returns of the functions that find it
-pub bin-plain : (o : ℕ) (s : BinS) → o ≡ 0 → Bin s ≡ binForm o s
-unfolding binForm
-bin-plain o s e = rw e
+-- by whether an offset is known
+pub at-zero : {A : Type 0} (o : ℕ) (x y : A) → o ≡ 0 → x ≡ cond (eqb o 0) x y
+at-zero o x y e = rw e
 
-pub bin-address : (o : ℕ) (s : BinS) → (o ≡ 0 → ⊥) → Leaf (Address o) ≡ binForm o s
-unfolding binForm
-bin-address o s n = rw (ne-eqb o 0 n)
-
-pub slot-none : (o : ℕ) (s : LoadS) → o ≡ 0 → Through s ≡ slotForm o s
-unfolding slotForm
-slot-none o s e = rw e
-
-pub slot-there : (o : ℕ) (s : LoadS) → (o ≡ 0 → ⊥) → Leaf (Slot o) ≡ slotForm o s
-unfolding slotForm
-slot-there o s n = rw (ne-eqb o 0 n)
+pub past-zero : {A : Type 0} (o : ℕ) (x y : A) → (o ≡ 0 → ⊥) → y ≡ cond (eqb o 0) x y
+past-zero o x y n = rw (ne-eqb o 0 n)
 
 module _ (f : List ℕ) (n g : ℕ) (tag : g ≡ exprWord f n 0) where
   pub global-other : (g ≡ 1 → ⊥) → false ≡ (eqb (exprWord f n 0) tConst && isGlobal (exprLong f n 1))

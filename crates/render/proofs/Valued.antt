@@ -102,8 +102,12 @@ module _ (f numbers offs placed names : List ℕ) (t : ℕ) (P : Places) (T : To
   table-says g =
       let o = T .ground in
       ap (λ (l : List ℕ). at (table f (length numbers) g) (at l p)) (o .values)
-      ∙ table-read f (length numbers) g p (v .reg) (v .ver) (omega (arith, N .here, keyed-length f (length numbers) (o .counts) (o .room)))
-      (sym (encode (at (keyed f (length numbers)) p) (N .names))) small
+      ∙ table-read f (length numbers) g p v
+      (record {
+        here = omega (arith, N .here, keyed-length f (length numbers) (o .counts) (o .room));
+        is = sym (encode (at (keyed f (length numbers)) p) (N .names));
+        small = small;
+      })
 
   -- i is its number
   module _ (i : ℕ) (number : i ≡ at numbers p) (E : Edition) where

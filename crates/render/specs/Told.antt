@@ -9,14 +9,12 @@ use Rattle.definition.specs.Contents.{text}
 use Rattle.definition.specs.Meaning.{definedOnce}
 use Rattle.definition.specs.Read.{read}
 use Rattle.definition.specs.Offsets.{look, offsets}
-use Rattle.definition.specs.Classes.{classes}
-use Rattle.definition.specs.Inline.{readsOf, inline}
 use Rattle.values.specs.declared.places.Places.{Places}
 use Rattle.values.specs.Keys.{valueOf, keyed}
 use Rattle.values.specs.Tables.{at, table}
 use Rattle.sums.specs.Ground.{Ground}
 use Rattle.inline.specs.Placing.{placeOf}
-use Rattle.names.specs.Codes.{nameCode}
+use Rattle.names.specs.Given.{nameTable}
 
 -- t is the text's section
 pub record Told (f : List ℕ) (t : ℕ) (P : Places) (numbers offs places names : List ℕ) : Type 0 where
@@ -24,7 +22,7 @@ pub record Told (f : List ℕ) (t : ℕ) (P : Places) (numbers offs places names
   pub once : definedOnce f ≡ true
   pub known : (E : Edition) → text E ≡ t → offs ≡ table f (length numbers) (look (offsets (read E f)))
   pub placed : (E : Edition) → places ≡ table f (length numbers) (placeOf E f)
-  pub named : (E : Edition) → names ≡ table f (length numbers) (nameCode (read E f) (classes (read E f)) (inline (read E f) (readsOf (read E f))))
+  pub named : (E : Edition) → names ≡ nameTable E f (length numbers)
 
 -- a place of the file, among n, that names a value of register r
 pub record NamedAt (f : List ℕ) (n p r : ℕ) : Type 0 where

@@ -9,6 +9,7 @@ use lib.Dec.{eqb}
 use Rattle.definition.specs.Tokens.{Token, Line, tok, join, merge, line}
 use Rattle.definition.proofs.Bools.{none-some, by-test}
 use Rattle.definition.proofs.Merge.{by-join}
+use Rattle.definition.proofs.Runs.{run-append}
 use Rattle.room.specs.declared.out.Out.{Out}
 use Rattle.room.specs.Room.{Room, Sheet, sheetOf, isFull, emit, emitAll, seen, endLine, writeLine, writeAll, seenSheet}
 use Rattle.room.specs.Ending.{Ended}
@@ -27,11 +28,27 @@ by-seen {A} full f stays x y e =
     look : (z : A) (b : Bool) → full z ≡ b → cond (full z) none (some z) ≡ cond b none (some z)
     look z b h = ap (λ (q : Bool). cond q none (some z)) h
 
+-- ---- a run of steps that keep what is full as it is: of pieces into a room, or of lines into a sheet
+module _ {S X : Type 0} (full : S → Bool) (run : S → List X → S) (step : S → X → S) (none-run : (s : S) → run s [] ≡ s) (next-run : (s : S) (x : X) (xs : List X) → run s (x ∷ xs) ≡ run (step s x) xs)
+    (stays : (s : S) (x : X) → full s ≡ true → step s x ≡ s) where
+  abbrev look : S → Option S
+  look s = cond (full s) none (some s)
+
+  run-stays : (s : S) (xs : List X) → full s ≡ true → run s xs ≡ s
+  run-stays s [] h = none-run s
+  run-stays s (x ∷ xs) h = next-run s x xs ∙ ap (λ (z : S). run z xs) (stays s x h) ∙ run-stays s xs h
+
+  run-seen : (s u : S) (xs : List X) → look s ≡ look u → look (run s xs) ≡ look (run u xs)
+  run-seen s u xs = by-seen full (λ z. run z xs) (λ z. run-stays z xs) s u
+
+  -- one run behind another
+  runs-seen : (s₂ s₁ s₀ : S) (xs ys : List X) → look s₁ ≡ look (run s₀ xs) → look s₂ ≡ look (run s₁ ys) → look s₂ ≡ look (run s₀ (xs ++ ys))
+  runs-seen s₂ s₁ s₀ xs ys a b = b ∙ run-seen s₁ (run s₀ xs) ys a ∙ ap look (sym (run-append run step none-run next-run s₀ xs ys))
+
 -- ---- a full room stays as it is
 pub emits-stay : (r : Room) (ps : List Token) → isFull r ≡ true → emitAll r ps ≡ r
 unfolding emitAll
-emits-stay r [] h = refl
-emits-stay r (p ∷ ps) h = ap (λ (q : Room). emitAll q ps) (emit-stays r p h) ∙ emits-stay r ps h
+emits-stay = run-stays isFull emitAll emit (λ r. refl) (λ r p ps. refl) emit-stays
 
 pub end-stays : (s : Sheet) (n : ℕ) (a : Option ℕ) → isFull (s .room) ≡ true → endLine s n a ≡ s
 unfolding endLine
@@ -43,37 +60,23 @@ line-stays s x h =
     ap (λ (r : Room). endLine (record { lines = s .lines; room = r }) (x .indent) (x .addr)) (emits-stay (s .room) (x .toks) h)
     ∙ end-stays s (x .indent) (x .addr) h
 
-pub lines-stay : (s : Sheet) (xs : List Line) → isFull (s .room) ≡ true → writeAll s xs ≡ s
-unfolding writeAll
-lines-stay s [] h = refl
-lines-stay s (x ∷ xs) h = ap (λ (u : Sheet). writeAll u xs) (line-stays s x h) ∙ lines-stay s xs h
-
 -- ---- so only what is seen counts
 pub seen-emits : (r q : Room) (ps : List Token) → seen r ≡ seen q → seen (emitAll r ps) ≡ seen (emitAll q ps)
-unfolding seen
-seen-emits r q ps e = by-seen isFull (λ z. emitAll z ps) (λ z. emits-stay z ps) r q e
+unfolding seen emitAll
+seen-emits = run-seen isFull emitAll emit (λ r. refl) (λ r p ps. refl) emit-stays
 
-module _ (s u : Sheet) (same : seenSheet s ≡ seenSheet u) where
-  pub seen-end : (n : ℕ) (a : Option ℕ) → seenSheet (endLine s n a) ≡ seenSheet (endLine u n a)
-  unfolding seenSheet
-  seen-end n a = by-seen (λ z. isFull (z .room)) (λ z. endLine z n a) (λ z. end-stays z n a) s u same
-
-  pub seen-lines : (xs : List Line) → seenSheet (writeAll s xs) ≡ seenSheet (writeAll u xs)
-  unfolding seenSheet
-  seen-lines xs = by-seen (λ z. isFull (z .room)) (λ z. writeAll z xs) (λ z. lines-stay z xs) s u same
+pub seen-end : (s u : Sheet) → seenSheet s ≡ seenSheet u → (n : ℕ) (a : Option ℕ) → seenSheet (endLine s n a) ≡ seenSheet (endLine u n a)
+unfolding seenSheet
+seen-end s u same n a = by-seen (λ z. isFull (z .room)) (λ z. endLine z n a) (λ z. end-stays z n a) s u same
 
 -- ---- a run of calls: `next` for one piece, `more` for a list of pieces, `done` at the end; or the room is full
-emits-append : (r : Room) (a b : List Token) → emitAll r (a ++ b) ≡ emitAll (emitAll r a) b
-unfolding emitAll
-emits-append r [] b = refl
-emits-append r (p ∷ a) b = emits-append (emit r p) a b
-
 pub next : {r₁ : Room} (rₙ r₀ : Room) (p : Token) (ps : List Token) → r₁ ≡ emit r₀ p → seen rₙ ≡ seen (emitAll r₁ ps) → seen rₙ ≡ seen (emitAll r₀ (p ∷ ps))
 unfolding emitAll
 next rₙ r₀ p ps a b = b ∙ ap (λ (r : Room). seen (emitAll r ps)) a
 
 pub more : (rₙ r₁ r₀ : Room) (qs ps : List Token) → seen r₁ ≡ seen (emitAll r₀ qs) → seen rₙ ≡ seen (emitAll r₁ ps) → seen rₙ ≡ seen (emitAll r₀ (qs ++ ps))
-more rₙ r₁ r₀ qs ps a b = b ∙ seen-emits r₁ (emitAll r₀ qs) ps a ∙ ap seen (sym (emits-append r₀ qs ps))
+unfolding seen emitAll
+more = runs-seen isFull emitAll emit (λ r. refl) (λ r p ps. refl) emit-stays
 
 pub done : (r : Room) → seen r ≡ seen (emitAll r [])
 unfolding emitAll
@@ -103,11 +106,6 @@ merged r [] = refl
 merged r (t ∷ ts) = join-seen r t (merge ts) ∙ merged (emit r t) ts
 
 -- ---- lines
-lines-append : (s : Sheet) (xs ys : List Line) → writeAll s (xs ++ ys) ≡ writeAll (writeAll s xs) ys
-unfolding writeAll
-lines-append s [] ys = refl
-lines-append s (x ∷ xs) ys = lines-append (writeLine s x) xs ys
-
 -- what is seen of a sheet, from what is seen of its room
 sheet-seen : (l : List ℕ) (r q : Room) → seen r ≡ seen q → seenSheet (record { lines = l; room = r }) ≡ seenSheet (record { lines = l; room = q })
 unfolding seen seenSheet
@@ -127,20 +125,25 @@ piece-as x y k s t e h = rw (← h) e
 pub pieces-are : (r r₀ : Room) (ps qs : List Token) → seen r ≡ seen (emitAll r₀ ps) → ps ≡ qs → seen r ≡ seen (emitAll r₀ qs)
 pieces-are r r₀ ps qs h p = rw (← p) h
 
--- a line ended behind its pieces is that line
+-- a line ended behind its tokens, or behind its pieces, is that line
+pub line-ended : (l l′ : List ℕ) (r₀ r₁ : Room) (o : Out) (x : Line) → seen r₁ ≡ seen (emitAll r₀ (x .toks)) → Ended l (r₁ .out) (x .indent) (x .addr) l′ o
+    → seenSheet (sheetOf l′ (r₁ .tokens) (r₁ .text) o) ≡ seenSheet (writeAll (record { lines = l; room = r₀ }) (x ∷ []))
+unfolding writeAll writeLine
+line-ended l l′ r₀ r₁ o x e d =
+    ap seenSheet (d .whole (r₁ .tokens) (r₁ .text))
+    ∙ seen-end (record { lines = l; room = r₁ }) (record { lines = l; room = emitAll r₀ (x .toks) }) (sheet-seen l r₁ (emitAll r₀ (x .toks)) e) (x .indent) (x .addr)
+
 pub line-ends : (l l′ : List ℕ) (r₀ r₁ : Room) (o : Out) (n : ℕ) (a : Option ℕ) (ps : List Token)
     → seen r₁ ≡ seen (emitAll r₀ ps) → Ended l (r₁ .out) n a l′ o
     → seenSheet (sheetOf l′ (r₁ .tokens) (r₁ .text) o) ≡ seenSheet (writeAll (record { lines = l; room = r₀ }) (line n a ps ∷ []))
-unfolding writeAll writeLine line
-line-ends l l′ r₀ r₁ o n a ps e d =
-    ap seenSheet (d .whole (r₁ .tokens) (r₁ .text))
-    ∙ seen-end (record { lines = l; room = r₁ }) (record { lines = l; room = emitAll r₀ (merge ps) })
-    (sheet-seen l r₁ (emitAll r₀ (merge ps)) (e ∙ sym (merged r₀ ps))) n a
+unfolding line
+line-ends l l′ r₀ r₁ o n a ps e = line-ended l l′ r₀ r₁ o (line n a ps) (e ∙ sym (merged r₀ ps))
 
 -- lines one after the other
 pub writes : (s₂ s₁ s₀ : Sheet) (xs ys : List Line) → seenSheet s₁ ≡ seenSheet (writeAll s₀ xs) → seenSheet s₂ ≡ seenSheet (writeAll s₁ ys)
     → seenSheet s₂ ≡ seenSheet (writeAll s₀ (xs ++ ys))
-writes s₂ s₁ s₀ xs ys a b = b ∙ seen-lines s₁ (writeAll s₀ xs) a ys ∙ ap seenSheet (sym (lines-append s₀ xs ys))
+unfolding seenSheet writeAll
+writes = runs-seen (λ s. isFull (s .room)) writeAll writeLine (λ s. refl) (λ s x xs. refl) line-stays
 
 pub written-none : (s : Sheet) → seenSheet s ≡ seenSheet (writeAll s [])
 unfolding writeAll

@@ -8,8 +8,8 @@ use native.Mathlib.Omega.{arith}
 use lib.ListN.{length}
 use Rattle.definition.specs.Tokens.{Token, Line, joins, join, merge, line}
 use Rattle.definition.proofs.Bools.{by-test}
-use Rattle.definition.proofs.ListLaws.{Each, end, _▸_}
-use Rattle.definition.proofs.Merge.{by-join, merge-again, merge-length}
+use Rattle.definition.proofs.ListLaws.{Each, _▸_}
+use Rattle.definition.proofs.Merge.{each-merge, merge-again, merge-length}
 
 -- a kind that a token's number can tell
 abbrev pub Kind8 : Token → Type 0
@@ -20,22 +20,12 @@ pub record Proper (x : Line) : Type 0 where
   pub kinds : Each Kind8 (x .toks)
 
 -- ---- merging keeps kinds, and is done once
-kinds-join : (t : Token) (us : List Token) → Kind8 t → Each Kind8 us → Each Kind8 (join t us)
-unfolding join
-kinds-join t [] h k = h ▸ end
-kinds-join t (u ∷ us) h (c ▸ k) = by-join (Each Kind8) t u us (λ j. h ▸ k) (h ▸ c ▸ k)
-
-kinds-merge : {ts : List Token} → Each Kind8 ts → Each Kind8 (merge ts)
-unfolding merge
-kinds-merge end = end
-kinds-merge (_▸_ {x = t} {xs = ts} c h) = kinds-join t (merge ts) c (kinds-merge h)
-
 pub merge-once : (ts : List Token) → merge (merge ts) ≡ merge ts
 merge-once ts = ap merge (sym (append-nil (merge ts))) ∙ merge-again ts [] ∙ ap merge (append-nil ts)
 
 pub line-proper : (n : ℕ) (a : Option ℕ) {ts : List Token} → Each Kind8 ts → Proper (line n a ts)
 unfolding line
-line-proper n a {ts} h = record { once = merge-once ts; kinds = kinds-merge h }
+line-proper n a {ts} h = record { once = merge-once ts; kinds = each-merge (λ t u j k. k) h }
 
 -- ---- no two neighbours join
 pub data Apart : List Token → Type 0 where

@@ -32,15 +32,19 @@ unfolding tokensOf gather
 tokens-snoc [] x = append-nil (x .toks)
 tokens-snoc (y ∷ ls) x = ap (λ (l : List Token). y .toks ++ l) (tokens-snoc ls x) ∙ sym (append-assoc (y .toks) (tokensOf ls) (x .toks))
 
+-- what adds up over tokens adds up over lines
+adds-up : (m : List Token → ℕ) → m [] ≡ 0 → ((ts us : List Token) → m (ts ++ us) ≡ m ts + m us) → (ls : List Line) → total (λ x. m (x .toks)) ls ≡ m (tokensOf ls)
+unfolding tokensOf total gather
+adds-up m z h [] = sym z
+adds-up m z h (x ∷ ls) = omega (arith, adds-up m z h ls, h (x .toks) (tokensOf ls))
+
 pub token-count : (ls : List Line) → tokenCount ls ≡ length (tokensOf ls)
-unfolding tokenCount tokensOf total gather
-token-count [] = refl
-token-count (x ∷ ls) = omega (arith, token-count ls, length-append (x .toks) (tokensOf ls))
+unfolding tokenCount
+token-count = adds-up length refl length-append
 
 pub byte-count : (ls : List Line) → byteCount ls ≡ size (tokensOf ls)
-unfolding byteCount tokensOf total gather textOf
-byte-count [] = refl
-byte-count (x ∷ ls) = omega (arith, byte-count ls, size-append (x .toks) (tokensOf ls))
+unfolding byteCount textOf
+byte-count = adds-up size refl size-append
 
 pub rows-length : (n : ℕ) (ls : List Line) → length (lineWords n ls) ≡ 5 * length ls
 unfolding lineWords

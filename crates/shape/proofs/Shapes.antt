@@ -80,13 +80,18 @@ module _ (w : ℕ → ℕ) where
   unfolding blankTail
   tail-is a b c d pa pb pc pd = rw (pa, pb, pc, pd)
 
+  -- tests before it
+  with-tail : (b x : Bool) → x ≡ blankTail w → (b && x) ≡ (b && eqb (w 3) 0 && eqb (w 4) 0 && eqb (w 5) 0 && eqb (w 6) 0)
+  unfolding blankTail
+  with-tail b x q = rw q (and-four b (eqb (w 3) 0) (eqb (w 4) 0) (eqb (w 5) 0) (eqb (w 6) 0))
+
   pub assign-is : (x : Bool) → x ≡ blankTail w → x ≡ fieldsShaped kAssign w
   unfolding fieldsShaped blankTail
   assign-is x p = p
 
   pub store-is : (a : ℕ) (x : Bool) → a ≡ w 0 → x ≡ blankTail w → (leb a 255 && x) ≡ fieldsShaped kStore w
-  unfolding fieldsShaped blankTail
-  store-is a x p q = rw (p, q) (and-four (leb (w 0) 255) (eqb (w 3) 0) (eqb (w 4) 0) (eqb (w 5) 0) (eqb (w 6) 0))
+  unfolding fieldsShaped
+  store-is a x p = rw p (with-tail (leb (w 0) 255) x)
 
   pub call-is : (a b c : ℕ) (x : Bool) → a ≡ w 3 → b ≡ w 4 → c ≡ w 5 → x ≡ optional a b c → x ≡ fieldsShaped kCall w
   unfolding fieldsShaped optional
@@ -98,14 +103,13 @@ module _ (w : ℕ → ℕ) where
   branch-is a b c d e g x y pa pb pc pd pe pg px py = rw (px, py, pa, pb, pc, pd, pe, pg) (two-optional _ _ _ _ _ _)
 
   pub flags-is : (a : ℕ) (x : Bool) → a ≡ w 0 → x ≡ blankTail w → (leb a 1 && x) ≡ fieldsShaped kFlags w
-  unfolding fieldsShaped blankTail
-  flags-is a x p q = rw (p, q) (and-four (leb (w 0) 1) (eqb (w 3) 0) (eqb (w 4) 0) (eqb (w 5) 0) (eqb (w 6) 0))
+  unfolding fieldsShaped
+  flags-is a x p = rw p (with-tail (leb (w 0) 1) x)
 
   pub return-is : (a b c : ℕ) (x y : Bool) → a ≡ w 0 → b ≡ w 1 → c ≡ w 2 → x ≡ absent a b → y ≡ blankTail w
       → (leb a 1 && x && eqb c 0 && y) ≡ fieldsShaped kReturn w
-  unfolding fieldsShaped blankTail
-  return-is a b c x y pa pb pc p q =
-      rw (p, q, pa, pb, pc) (and-four (bit (w 0) && absent (w 0) (w 1) && eqb (w 2) 0) (eqb (w 3) 0) (eqb (w 4) 0) (eqb (w 5) 0) (eqb (w 6) 0))
+  unfolding fieldsShaped
+  return-is a b c x y pa pb pc p = rw (p, pa, pb, pc) (with-tail (bit (w 0) && absent (w 0) (w 1) && eqb (w 2) 0) y)
 
   pub other-is : (a b c : ℕ) → a ≡ w 4 → b ≡ w 5 → c ≡ w 6 → (eqb a 0 && eqb b 0 && eqb c 0) ≡ fieldsShaped kOther w
   unfolding fieldsShaped
@@ -183,8 +187,6 @@ sound-is : (E : Edition) (f : List ℕ) → not (sound E f) ≡ refused4 E f
 unfolding refused4 also
 sound-is E f = ap not (sym (and-assoc (adjoin f (contents E) 0 (E .sections)) (owned f) (shaped f)))
 
-pub refuse : (E : Edition) (f : List ℕ) → false ≡ sound E f → true ≡ refused4 E f
-refuse E f e = ap not e ∙ sound-is E f
-
-pub last : (E : Edition) (f : List ℕ) (t : Bool) → t ≡ sound E f → not t ≡ refused4 E f
-last E f t e = ap not e ∙ sound-is E f
+-- by the tests up to the one that fails, or by them all
+pub answer : (E : Edition) (f : List ℕ) (t : Bool) → t ≡ sound E f → not t ≡ refused4 E f
+answer E f t e = ap not e ∙ sound-is E f

@@ -2,7 +2,7 @@
 -- tokens ends at the first place that the search finds.
 use mathlib.Core.Path.{_≡_, refl, sym, ap, _∙_}
 use mathlib.Core.Bool.{Bool, true, false, _&&_, and-false, and-true}
-use mathlib.Core.Option.{none, some}
+use mathlib.Core.Option.{Option, none}
 use mathlib.Core.List.{List, [], _∷_}
 use Prim.Native.Nat.{ℕ, zero, suc, _+_, _-_, _≤_, _<_}
 use native.Mathlib.Omega.{arith}
@@ -10,7 +10,7 @@ use borrow.Author.Tests.{eq-eqb, ne-eqb}
 use lib.Dec.{eqb}
 use Rattle.definition.specs.Texts.{txt, same}
 use Rattle.definition.specs.Lists.{range}
-use Rattle.definition.specs.Tokens.{Token, keyword}
+use Rattle.definition.specs.Tokens.{Token}
 use Rattle.definition.specs.Sorts.{isTok, firstIs, firstText, isLabel, firstSymbol, gotoTarget}
 use Rattle.definition.proofs.Bools.{by-test}
 use Rattle.sheet.specs.Buffers.{kindAt, startAt, endAt, textAt, tokenAt, tokensIn}
@@ -79,55 +79,51 @@ module _ (ks t : List ℕ) where
       unfolding firstText tokenAt
       text-first = ap firstText tokens-first
 
-  -- ---- the first Symbol
-  symbol-none : (n a : ℕ) → a + n ≤ firstPlace (symbolAt ks) a n → firstSymbol (tokensIn ks t a n) ≡ none
-  unfolding firstPlace firstSymbol tokensIn range symbolAt tokenAt
-  symbol-none zero a h = refl
-  symbol-none (suc n) a h =
-      by-test (eqb (kindAt ks a) 4) (λ q. absurd (omega (arith, rw q at h)))
-      (λ q. rw q (symbol-none n (a + 1) (omega (arith, rw q at h))))
+  -- ---- a recursion over the tokens that goes on where a test of their place does not hold
+  module _ (f : List Token → Option (List ℕ)) (p : ℕ → Bool) (nil : f [] ≡ none) (on : (a : ℕ) (ts : List Token) → p a ≡ false → f (tokenAt ks t a ∷ ts) ≡ f ts) where
+    seek-none : (n a : ℕ) → a + n ≤ firstPlace p a n → f (tokensIn ks t a n) ≡ none
+    unfolding firstPlace tokensIn range
+    seek-none zero a h = nil
+    seek-none (suc n) a h =
+        by-test (p a) (λ q. absurd (omega (arith, rw q at h))) (λ q. on a (tokensIn ks t (a + 1) n) q ∙ seek-none n (a + 1) (omega (arith, rw q at h)))
 
-  symbol-some : (n a : ℕ) → firstPlace (symbolAt ks) a n < a + n → firstSymbol (tokensIn ks t a n) ≡ some (textAt ks t (firstPlace (symbolAt ks) a n))
-  unfolding firstPlace firstSymbol tokensIn range symbolAt tokenAt
-  symbol-some zero a h = absurd (omega arith)
-  symbol-some (suc n) a h =
-      by-test (eqb (kindAt ks a) 4) (λ q. rw q refl)
-      (λ q. rw q (symbol-some n (a + 1) (omega (arith, rw q at h))))
+    -- it comes to the place i that the search finds, of those up to b
+    seek-some : (n a i b : ℕ) → i ≡ firstPlace p a n → a + n ≡ b → i < b
+        → (p i ≡ true) × (f (tokensIn ks t a n) ≡ f (tokenAt ks t i ∷ tokensIn ks t (i + 1) (b - (i + 1))))
+    unfolding firstPlace tokensIn range
+    seek-some zero a i b e s h = absurd (omega arith)
+    seek-some (suc n) a i b e s h =
+        let y : b - (a + 1) ≡ n = omega arith in
+        by-test (p a) (λ q. let z : i ≡ a = rw q at e in rw (z, y) (q, refl))
+        (λ q. let r = seek-some n (a + 1) i b (rw q at e) (omega arith) h in (r .0, on a (tokensIn ks t (a + 1) n) q ∙ r .1))
 
-  -- ---- and the first `goto`
-  goto-none : (n a : ℕ) → a + n ≤ firstPlace (gotoAt ks t) a n → gotoTarget (tokensIn ks t a n) ≡ none
-  unfolding firstPlace gotoTarget tokensIn range gotoAt
-  goto-none zero a h = refl
-  goto-none (suc n) a h =
-      by-test (isTok (keyword (txt "goto")) (tokenAt ks t a)) (λ q. absurd (omega (arith, rw q at h)))
-      (λ q. rw q (goto-none n (a + 1) (omega (arith, rw q at h))))
+  symbol-on : (a : ℕ) (ts : List Token) → symbolAt ks a ≡ false → firstSymbol (tokenAt ks t a ∷ ts) ≡ firstSymbol ts
+  unfolding firstSymbol symbolAt tokenAt
+  symbol-on a ts q = rw q
 
-  goto-some : (n a : ℕ) → firstPlace (gotoAt ks t) a n < a + n
-      → gotoTarget (tokensIn ks t a n) ≡ firstSymbol (tokensIn ks t (firstPlace (gotoAt ks t) a n + 1) (a + n - (firstPlace (gotoAt ks t) a n + 1)))
-  unfolding firstPlace gotoTarget tokensIn range gotoAt
-  goto-some zero a h = absurd (omega arith)
-  goto-some (suc n) a h =
-      let z : a + suc n - (a + 1) ≡ n = omega arith in
-      let s : a + suc n ≡ a + 1 + n = omega arith in
-      by-test (isTok (keyword (txt "goto")) (tokenAt ks t a)) (λ q. rw (q, z) refl)
-      (λ q. rw (q, s) (goto-some n (a + 1) (omega (arith, rw q at h))))
+  goto-on : (a : ℕ) (ts : List Token) → gotoAt ks t a ≡ false → gotoTarget (tokenAt ks t a ∷ ts) ≡ gotoTarget ts
+  unfolding gotoTarget gotoAt
+  goto-on a ts q = rw q
 
   module _ (a e g : ℕ) (found : g ≡ firstPlace (gotoAt ks t) a (e - a)) where
     pub target-none : e ≤ g → targetText ks t Nowhere ≡ gotoTarget (tokensIn ks t a (e - a))
-    unfolding targetText
-    target-none h = sym (goto-none (e - a) a (omega (arith, place-within (gotoAt ks t) (e - a) a .0)))
+    unfolding targetText gotoTarget
+    target-none h = sym (seek-none gotoTarget (gotoAt ks t) refl goto-on (e - a) a (omega (arith, place-within (gotoAt ks t) (e - a) a .0)))
 
     module _ (h : g < e) (s : ℕ) (next : s ≡ firstPlace (symbolAt ks) (g + 1) (e - (g + 1))) where
       behind : gotoTarget (tokensIn ks t a (e - a)) ≡ firstSymbol (tokensIn ks t (g + 1) (e - (g + 1)))
+      unfolding gotoTarget gotoAt
       behind =
           let w = place-within (gotoAt ks t) (e - a) a .0 in
-          let z : a + (e - a) ≡ e = omega arith in
-          goto-some (e - a) a (omega arith) ∙ rw (← found, z)
+          let r = seek-some gotoTarget (gotoAt ks t) refl goto-on (e - a) a g e found (omega arith) h in
+          r .1 ∙ rw (r .0)
 
       pub target-ended : e ≤ s → targetText ks t Nowhere ≡ gotoTarget (tokensIn ks t a (e - a))
-      unfolding targetText
-      target-ended k = sym (behind ∙ symbol-none (e - (g + 1)) (g + 1) (omega arith))
+      unfolding targetText firstSymbol
+      target-ended k = sym (behind ∙ seek-none firstSymbol (symbolAt ks) refl symbol-on (e - (g + 1)) (g + 1) (omega arith))
 
       pub target-at : s < e → targetText ks t (At s) ≡ gotoTarget (tokensIn ks t a (e - a))
-      unfolding targetText
-      target-at k = sym (behind ∙ symbol-some (e - (g + 1)) (g + 1) (omega arith) ∙ rw (← next))
+      unfolding targetText firstSymbol symbolAt tokenAt
+      target-at k =
+          let r = seek-some firstSymbol (symbolAt ks) refl symbol-on (e - (g + 1)) (g + 1) s e next (omega arith) k in
+          sym (behind ∙ r .1 ∙ rw (r .0))

@@ -1,17 +1,16 @@
 -- Every row comes of a lowered line: the passes put in closing rows, which have origin 0, and leave the origin of every other row as it is.
 use mathlib.Core.Path.{_≡_, sym, subst}
 use mathlib.Core.Bool.{Bool, true, false}
-use mathlib.Core.List.{List, map}
+use mathlib.Core.List.{List}
 use Prim.Native.Nat.{ℕ, zero, suc, _+_, _-_, _/_, _%_, _≤_, _<_}
 use native.Mathlib.Omega.{arith}
 use borrow.Author.Tests.{ltb-true}
 use lib.Dec.{eqb, ltb}
-use lib.ListN.{length, take, drop, set, replicate}
-use Rattle.definition.specs.Lists.{range}
+use lib.ListN.{length, take, set, replicate}
 use Rattle.definition.specs.Tokens.{Line}
 use Rattle.definition.specs.Sorts.{sort}
 use Rattle.definition.proofs.Bools.{by-cond}
-use Rattle.definition.proofs.ListLaws.{Each, end, _▸_, each-append, each-map, each-only}
+use Rattle.definition.proofs.ListLaws.{Each, end, _▸_, each-append, each-map, each-take, each-drop, each-range, each-only}
 use Rattle.sheet.specs.Ranges.{least}
 use Rattle.sheet.proofs.Reading.{least-left}
 use Rattle.passes.specs.declared.sweeps.Passed.{Passed}
@@ -28,16 +27,6 @@ use Rattle.structure.specs.Runs.{behindLoops, loopsRan, behindIfs, ifsRa
 
 -- ---- each row of what the passes make of a table
 module _ {P : ℕ → Type 0} where
-  pub each-take : (n : ℕ) {xs : List ℕ} → Each P xs → Each P (take n xs)
-  each-take zero h = end
-  each-take (suc n) end = end
-  each-take (suc n) (p ▸ h) = p ▸ each-take n h
-
-  each-drop : (n : ℕ) {xs : List ℕ} → Each P xs → Each P (drop n xs)
-  each-drop zero h = h
-  each-drop (suc n) end = end
-  each-drop (suc n) (p ▸ h) = each-drop n h
-
   each-set : {xs : List ℕ} (i v : ℕ) → P v → Each P xs → Each P (set xs i v)
   each-set i v q end = end
   each-set zero v q (p ▸ h) = q ▸ h
@@ -52,11 +41,6 @@ module _ {P : ℕ → Type 0} where
   each-row z end i = z
   each-row z (p ▸ h) zero = p
   each-row z (p ▸ h) (suc i) = each-row z h i
-
-  each-range : (f : ℕ → ℕ) (a n : ℕ) → ((i : ℕ) → i < a + n → P (f i)) → Each P (map f (range a n))
-  unfolding range
-  each-range f a zero h = end
-  each-range f a (suc n) h = h a (omega arith) ▸ each-range f (a + 1) n (λ i g. h i (omega arith))
 
   each-changed : (f : ℕ → ℕ) → ((w : ℕ) → P w → P (f w)) → {R : List ℕ} (a b : ℕ) → Each P R → Each P (changedIn f R a b)
   unfolding changedIn

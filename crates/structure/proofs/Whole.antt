@@ -14,7 +14,7 @@ use Rattle.definition.specs.Tokens.{Line}
 use Rattle.definition.specs.Sorts.{sort}
 use Rattle.definition.specs.Passes.{conds, condName, closer}
 use Rattle.definition.specs.Listing.{Listing, structure, tests, refusal, success, resultOf, lineNumbers}
-use Rattle.definition.proofs.ListLaws.{Each, end, count-length}
+use Rattle.definition.proofs.ListLaws.{Each, end, each-take, count-length}
 use Rattle.definition.proofs.Structured.{shaped}
 use Rattle.definition.proofs.Accepted.{not-eight}
 use Rattle.room.specs.Room.{Sheet, sheetOf, writeAll, seenSheet}
@@ -41,7 +41,7 @@ use Rattle.structure.specs.declared.answers.Structured.the-variants.{Too
 use Rattle.structure.specs.Runs.{Ran, ran, ranOf}
 use Rattle.structure.specs.Sheets.{countsOf, HeadsLeft, Answered}
 use Rattle.structure.specs.Lowered.{Given, Known, Lends, lent, resultIn, Finishes}
-use Rattle.structure.proofs.Origins.{Below, each-take, each-row, zero-below, ran-below, sorted-below}
+use Rattle.structure.proofs.Origins.{Below, each-row, zero-below, ran-below, sorted-below}
 use Rattle.structure.proofs.Finishing.{rows-proper}
 use Rattle.structure.proofs.Said.{Says, says}
 

@@ -17,17 +17,11 @@ use Rattle.definition.specs.Offsets.{Known, look, stackOff, outside, refused7}
 use Rattle.values.specs.declared.places.Places.{Places}
 use Rattle.values.specs.Keys.{keyOf, exprKey, placesOf, keyed}
 use Rattle.values.specs.Tables.{at, numbered, table}
-use Rattle.values.proofs.Tables.{table-read, numbered-below}
+use Rattle.values.proofs.Tables.{table-read, numbered-below, Names}
 use Rattle.values.proofs.Placed.{at-expr, keyed-length, stmt-here, expr-here}
 use Rattle.sums.specs.Ground.{Ground}
 use Rattle.sums.specs.Address.{valueAt, addressAt, outsideAt}
 use Rattle.sums.proofs.Trees.{off-here, out-turn, out-hit}
-
--- place p names the value v, in scratch of n numbers
-pub record Names (f : List ℕ) (n p : ℕ) (v : Value) : Type 0 where
-  pub here : p < length (keyed f n)
-  pub is : at (keyed f n) p ≡ keyOf v
-  pub small : v .ver < 4294967296
 
 -- every section is the text of some edition
 pub some-edition : (t : ℕ) → (E : Edition) × (text E ≡ t)
@@ -48,34 +42,39 @@ pub grounded : (f numbers : List ℕ) (places : Places) → places ≡ placesOf 
 grounded f numbers places e g = rw e g
 
 module _ (f numbers : List ℕ) (places : Places) (g : Ground f numbers places) where
-  pub place-here : (p : ℕ) → p < placesOf f .total → p < length (keyed f (length numbers))
+  place-here : (p : ℕ) → p < placesOf f .total → p < length (keyed f (length numbers))
   place-here p h = omega (arith, keyed-length f (length numbers) (g .counts) (g .room), g .room)
 
   -- what the table says at the number of a place
   pub known-at : (tab : List ℕ) (k : List Known) (p : ℕ) (v : Value) → Names f (length numbers) p v → tab ≡ table f (length numbers) (look k) → at tab (at numbers p) ≡ look k v
   known-at tab k p v m e =
       ap (λ (l : List ℕ). at tab (at l p)) (g .values) ∙ ap (λ (l : List ℕ). at l (at (numbered f (length numbers)) p)) e
-      ∙ table-read f (length numbers) (look k) p (v .reg) (v .ver) (m .here) (m .is) (m .small)
+      ∙ table-read f (length numbers) (look k) p v m
 
   pub number-low : (p : ℕ) (v : Value) → Names f (length numbers) p v → at numbers p < length numbers
   number-low p v m =
       omega (arith, ap (λ (l : List ℕ). at l p) (g .values), numbered-below f (length numbers) p (m .here), keyed-length f (length numbers) (g .counts) (g .room))
 
-  -- places are inside
+  -- a place that is read is inside, and names the value whose key stands there
+  pub inside : (read : Places → ℕ) (i : ℕ) → read (placesOf f) + i < placesOf f .total → read places + i < length numbers
+  inside read i h = rw (g .where-all) (omega (arith, h, g .room))
+
+  pub names-at : (read : Places → ℕ) (i : ℕ) (v : Value) → read (placesOf f) + i < placesOf f .total → at (keyed f (length numbers)) (read (placesOf f) + i) ≡ keyOf v
+      → v .ver < 4294967296 → Names f (length numbers) (read places + i) v
+  names-at read i v h e s = rw (g .where-all) (record { here = place-here (read (placesOf f) + i) h; is = e; small = s })
+
   pub stmt-inside : (i : ℕ) → i < size f statements → places .stmts + i < length numbers
-  stmt-inside i h = rw (g .where-all) (omega (arith, stmt-here f i h, g .room))
+  stmt-inside i h = inside (λ (q : Places). q .stmts) i (stmt-here f i h)
 
   pub expr-inside : (i : ℕ) → i < size f expressions → places .exprs + i < length numbers
-  expr-inside i h = rw (g .where-all) (omega (arith, expr-here f i h, g .room))
+  expr-inside i h = inside (λ (q : Places). q .exprs) i (expr-here f i h)
 
   module _ (bytes : (k : ℕ) → Fits w8 (getD f k 0)) where
     expr-names : (i : ℕ) → i < size f expressions → exprWord f i 0 ≡ 2 → Names f (length numbers) (places .exprs + i) (value (exprWord f i 1) (exprWord f i 2))
     unfolding exprKey
-    expr-names i h e = rw (g .where-all) (record {
-      here = place-here (placesOf f .exprs + i) (expr-here f i h);
-      is = rw e at (at-expr f (length numbers) (g .counts) i h);
-      small = word-small f bytes _;
-    })
+    expr-names i h e =
+        names-at (λ (q : Places). q .exprs) i (value (exprWord f i 1) (exprWord f i 2)) (expr-here f i h)
+        (rw e at (at-expr f (length numbers) (g .counts) i h)) (word-small f bytes _)
 
     module _ (tab : List ℕ) (k : List Known) (follows : tab ≡ table f (length numbers) (look k)) where
       used-known : (n : ℕ) → n < size f expressions → exprWord f n 0 ≡ 2 → valueAt tab numbers (places .exprs) n ≡ look k (value (exprWord f n 1) (exprWord f n 2))

@@ -6,7 +6,7 @@ use mathlib.Core.List.{List, [], _∷_, _++_}
 use Prim.Native.Nat.{ℕ, zero, suc, _+_, _≤_, _<_}
 use native.Mathlib.Omega.{arith}
 use lib.Dec.{eqb, ltb}
-use borrow.Author.Tests.{ltb-true, ltb-false, eqb-true, eqb-false, eq-eqb, ne-eqb}
+use borrow.Author.Tests.{ltb-true, ltb-false, eq-eqb, ne-eqb}
 use Rattle.definition.specs.Edition.{Edition, expressions}
 use Rattle.definition.specs.Lists.{any}
 use Rattle.definition.specs.Texts.{txt, same}
@@ -16,8 +16,8 @@ use Rattle.definition.specs.Ssa.{Expr}
 use Rattle.definition.specs.Ssa.Expr.{Const, Use, Bin, Un, Load, Opaque}
 use Rattle.definition.specs.Read.{opText, treeAt, tree, trees, allTrees}
 use Rattle.definition.specs.Offsets.{Known, look, withConst, sum, stackOff, known, isConst, outside, refused7}
-use Rattle.definition.proofs.Bools.{by-cond, by-test, or-left, or-right}
-use Rattle.records.proofs.Trees.{tree-lower, tree-past}
+use Rattle.definition.proofs.Bools.{by-test, or-left, or-right}
+use Rattle.records.proofs.Trees.{tree-lower, tree-past, by-tag}
 use Rattle.sums.specs.Address.{single, opByte, isSign, signedBy, usedAt, constAt, sumAt, addressAt, outsideAt}
 use Rattle.sums.proofs.Signed.{signed-0, signed-single, sign-single}
 
@@ -91,15 +91,11 @@ module _ (E : Edition) (f : List ℕ) where
       → ((exprWord f n 0 ≡ 1 → ⊥) → (exprWord f n 0 ≡ 2 → ⊥) → (exprWord f n 0 ≡ 3 → ⊥)
       → ((o : List ℕ) (a : Expr) → P (Un o a)) × ((m : ℕ) (a : Expr) → P (Load m a)) × ((x : List ℕ) → P (Opaque x)))
       → P (node n)
-  unfolding node tree
+  unfolding node
   by-node n P const used bin rest =
-      let g = exprWord f n 0 in
-      by-cond P (eqb g 1) (λ e. const (eqb-true g 1 e)) (λ p.
-      by-cond P (eqb g 2) (λ e. used (eqb-true g 2 e)) (λ q.
-      by-cond P (eqb g 3) (λ e. bin (eqb-true g 3 e)) (λ r.
-      let others = rest (eqb-false g 1 p) (eqb-false g 2 q) (eqb-false g 3 r) in
-      by-cond P (eqb g 4) (λ e. others .0 _ _) (λ s.
-      by-cond P (eqb g 5) (λ e. others .1 _ _) (λ t. others .2 _)))))
+      by-tag E f (trees E f n) n P const used bin
+      (λ e. rest (λ z. omega arith) (λ z. omega arith) (λ z. omega arith) .0 _ _) (λ e. rest (λ z. omega arith) (λ z. omega arith) (λ z. omega arith) .1 _ _)
+      (λ p q r s t. rest p q r .2 _)
 
   -- ---- what is known of the values that expressions use
   module _ (k : List Known) (h : ℕ → ℕ) (says : (n : ℕ) → n < size f expressions → exprWord f n 0 ≡ 2 → h n ≡ look k (value (exprWord f n 1) (exprWord f n 2))) where

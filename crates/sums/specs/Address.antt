@@ -1,12 +1,12 @@
 -- Addresses, read off the records of expressions. h says what is known of the value that an expression uses, t is the text's section.
 use mathlib.Core.Bool.{Bool, not, cond, _&&_, _||_}
 use mathlib.Core.List.{List, [], _∷_}
-use Prim.Native.Nat.{ℕ, _+_}
+use Prim.Native.Nat.{ℕ, _+_, _-_}
 use lib.Dec.{eqb, ltb}
 use Rattle.definition.specs.Codes.{tConst, tUse, tBin}
 use Rattle.definition.specs.Words.{part}
 use Rattle.definition.specs.Contents.{offset, exprWord, exprLong}
-use Rattle.definition.specs.Offsets.{plus, minus}
+use Rattle.definition.specs.Offsets.{half, whole, forth, back, plus, minus}
 use Rattle.values.specs.Tables.{at}
 
 -- what a table says of the value at place i behind `from`
@@ -27,7 +27,14 @@ opByte f t n = single (part f (offset f t + exprWord f n 1) (exprWord f n 2))
 unfoldable pub isSign : ℕ → Bool
 isSign o = eqb o 43 || eqb o 45
 
--- plus or minus the constant with the bits c, by the operator's byte
+-- m more or m less than s; plus or minus the constant with the bits c
+unfoldable pub moved : Bool → ℕ → ℕ → ℕ
+moved more s m = cond more (forth s m) (back s m)
+
+unfoldable pub shifted : Bool → ℕ → ℕ → ℕ
+shifted more s c = cond (ltb c half) (moved more s c) (moved (not more) s (whole - c))
+
+-- by the operator's byte
 unfoldable pub signedBy : ℕ → ℕ → ℕ → ℕ
 signedBy s o c = cond (eqb o 43) (plus s c) (cond (eqb o 45) (minus s c) 0)
 

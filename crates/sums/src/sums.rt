@@ -1,7 +1,6 @@
 // An offset is a number of 64 bits, 2^63 more than it says, and 0 where none is known. A sum is tested before it is made, so that none wraps.
 ghost use mathlib.Core.Path.{_≡_};
-ghost use Rattle.definition.specs.Offsets.{forth, back, plus, minus};
-ghost use Rattle.sums.specs.Address.{isSign, signedBy};
+ghost use Rattle.sums.specs.Address.{moved, shifted, isSign, signedBy};
 
 const HALF: u64 = 9223372036854775808;
 
@@ -11,44 +10,33 @@ const PLUS: u8 = 43;
 
 const MINUS: u8 = 45;
 
-fn forward(s: u64, m: u64) -> u64
-    ensures { λ r. ⌜ r ≡ forth s m ⌝ }
+// m more, or m less.
+fn moved(more: bool, s: u64, m: u64) -> u64
+    ensures { λ r. ⌜ r ≡ moved more s m ⌝ }
 {
-    if s == 0 {
+    if more {
+        if s == 0 {
+            return 0;
+        }
+        if m <= LAST - s {
+            return s + m;
+        }
         return 0;
     }
-    if m <= LAST - s {
-        return s + m;
-    }
-    0
-}
-
-fn backward(s: u64, m: u64) -> u64
-    ensures { λ r. ⌜ r ≡ back s m ⌝ }
-{
     if m < s {
         return s - m;
     }
     0
 }
 
-// Plus and minus the constant with the bits c, which is below 0 from 2^63 on.
-fn add(s: u64, c: u64) -> u64
-    ensures { λ r. ⌜ r ≡ plus s c ⌝ }
+// Plus or minus the constant with the bits c, which is below 0 from 2^63 on.
+fn shifted(more: bool, s: u64, c: u64) -> u64
+    ensures { λ r. ⌜ r ≡ shifted more s c ⌝ }
 {
     if c < HALF {
-        return forward(s, c);
+        return moved(more, s, c);
     }
-    backward(s, LAST - c + 1)
-}
-
-fn sub(s: u64, c: u64) -> u64
-    ensures { λ r. ⌜ r ≡ minus s c ⌝ }
-{
-    if c < HALF {
-        return backward(s, c);
-    }
-    forward(s, LAST - c + 1)
+    moved(!more, s, LAST - c + 1)
 }
 
 pub fn is_sign(op: u8) -> bool
@@ -65,10 +53,10 @@ pub fn signed(s: u64, op: u8, c: u64) -> u64
     ensures { λ r. ⌜ r ≡ signedBy s op c ⌝ }
 {
     if op == PLUS {
-        return add(s, c);
+        return shifted(true, s, c);
     }
     if op == MINUS {
-        return sub(s, c);
+        return shifted(false, s, c);
     }
     0
 }

@@ -22,9 +22,8 @@ use Rattle.definition.proofs.Bools.{by-test}
 use Rattle.values.specs.Keys.{keyOf, valueOf, keysOf, placesOf, keyed}
 use Rattle.values.specs.Tables.{at, firstOf, numberOf, numbersOf, entry, tabled, numbered, table}
 use Rattle.values.proofs.Ranges.{at-left, at-right, zeros-at}
-use Rattle.values.proofs.Tables.{encode, first-le, number-at, number-none, numbers-length, tabled-length, same-at, numbered-length, table-length, tabled-at}
+use Rattle.values.proofs.Tables.{encode, first-le, number-at, number-none, numbers-length, tabled-length, same-at, numbered-length, table-length, tabled-at, Names}
 use Rattle.values.proofs.Placed.{places-length, keyed-length}
-use Rattle.names.proofs.Mentioned.{Mentions}
 use Rattle.names.proofs.Rooted.{rooted}
 
 -- ---- zeros in two parts
@@ -170,7 +169,7 @@ module _ (f : List ℕ) (own : owned f ≡ true) (n m : ℕ) (room : placesOf f 
           ≡ numberOf (keyed f m) (keyOf (find (classes (read E f)) (valueOf (at (keyed f n) p))))
       same p b d =
           let k = at (keyed f n) p in
-          let by : Mentions f n p (valueOf k) = record { here = b; is = sym (encode k d); small = small k } in
+          let by : Names f n p (valueOf k) = record { here = b; is = sym (encode k d); small = small k } in
           let to = rooted f bytes own n room E p (valueOf k) by in
           number-front (keyOf (find (classes (read E f)) (valueOf k))) (to .0) (to .1 .here) (to .1 .is)
 

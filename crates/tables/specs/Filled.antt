@@ -11,15 +11,14 @@ use Rattle.definition.specs.Values.{eqv, within}
 use Rattle.definition.specs.Ssa.{Block}
 use Rattle.definition.specs.Read.{read, allTrees}
 use Rattle.definition.specs.Offsets.{look, offsets, refused7}
-use Rattle.definition.specs.Classes.{find, classes}
-use Rattle.definition.specs.Inline.{reads, phiReads, readsOf, inline}
+use Rattle.definition.specs.Classes.{classes}
+use Rattle.definition.specs.Inline.{reads, phiReads}
 use Rattle.definition.specs.Lookup.{jumpsFrom}
 use Rattle.definition.specs.Blocks.{readRoots}
 use Rattle.definition.specs.Listing.{checked, padded}
-use Rattle.values.specs.Keys.{keyOf, keyed}
-use Rattle.values.specs.Tables.{numberOf, numbered, table}
+use Rattle.values.specs.Tables.{numbered, table}
 use Rattle.inline.specs.Placing.{placeOf}
-use Rattle.names.specs.Codes.{nameCode}
+use Rattle.names.specs.Given.{rootTable, nameTable}
 use Rattle.tables.specs.Tables.{Tables, most, zeros, long}
 
 -- 7 where a sum is outside
@@ -49,10 +48,10 @@ pub record Held (f : List ℕ) (r : ℕ) (T T′ : Tables) : Type 0 where
   pub loads : T′ .loads ≡ zeros (T .loads)
   pub live : (E : Edition) → T′ .live ≡ given r (T .live) (table f most (λ v. count (eqv v) (reads (read E f))))
   pub phi : (E : Edition) → T′ .phi ≡ given r (T .phi) (table f most (λ v. cond (within v (phiReads (read E f))) 1 0))
-  pub roots : (E : Edition) → T′ .roots ≡ given r (T .roots) (table f most (λ v. numberOf (keyed f most) (keyOf (find (classes (read E f)) v))))
+  pub roots : (E : Edition) → T′ .roots ≡ given r (T .roots) (rootTable E f most)
   pub places : (E : Edition) → T′ .places ≡ given r (T .places) (table f most (placeOf E f))
   pub names : (E : Edition)
-      → T′ .names ≡ given r (T .names) (table f most (nameCode (read E f) (classes (read E f)) (inline (read E f) (readsOf (read E f)))))
+      → T′ .names ≡ given r (T .names) (nameTable E f most)
   pub marks : (E : Edition) → text E ≡ 8
       → T′ .marks ≡ given r (T .marks) (table f most (λ v. cond (within v (readRoots (read E f) (offsets (read E f)) (classes (read E f)))) 1 0))
   pub labels : (E : Edition)

@@ -9,14 +9,13 @@ use Rattle.definition.specs.Contents.{text}
 use Rattle.definition.specs.Values.{within}
 use Rattle.definition.specs.Read.{read, allTrees}
 use Rattle.definition.specs.Offsets.{look, offsets, refused7}
-use Rattle.definition.specs.Classes.{find, classes}
-use Rattle.definition.specs.Inline.{readsOf, inline}
+use Rattle.definition.specs.Classes.{classes}
 use Rattle.definition.specs.Blocks.{readRoots}
-use Rattle.values.specs.Keys.{keyOf, placesOf, keyed}
-use Rattle.values.specs.Tables.{numberOf, numbered, table}
+use Rattle.values.specs.Keys.{placesOf}
+use Rattle.values.specs.Tables.{numbered, table}
 use Rattle.reads.specs.Counts.{LiveReads, PhiReads}
 use Rattle.inline.specs.Placing.{placeOf}
-use Rattle.names.specs.Codes.{nameCode}
+use Rattle.names.specs.Given.{rootTable, nameTable}
 use Rattle.marks.specs.Labels.{Labels}
 use Rattle.analyses.specs.Sound.{Sound}
 use Rattle.tables.specs.Tables.{Tables}
@@ -34,7 +33,7 @@ pub record Grounded (f ns : List ℕ) : Type 0 where
 
 -- the roots of classes, in the table roots
 abbrev pub Rooted : List ℕ → ℕ → List ℕ → Type 0
-Rooted f n roots = (E : Edition) → roots ≡ table f n (λ v. numberOf (keyed f n) (keyOf (find (classes (read E f)) v)))
+Rooted f n roots = (E : Edition) → roots ≡ rootTable E f n
 
 -- the stack offsets, in the table os
 abbrev pub Stacked : List ℕ → ℕ → List ℕ → Type 0
@@ -77,7 +76,7 @@ pub record Marked (f : List ℕ) (n : ℕ) (marks labels : List ℕ) : Type 0 wh
 pub record Called (f : List ℕ) (n : ℕ) (roots places names marks labels : List ℕ) : Type 0 where
   pub rooted : Rooted f n roots
   pub placed : (E : Edition) → places ≡ table f n (placeOf E f)
-  pub named : (E : Edition) → names ≡ table f n (nameCode (read E f) (classes (read E f)) (inline (read E f) (readsOf (read E f))))
+  pub named : (E : Edition) → names ≡ nameTable E f n
   pub marked : Marked f n marks labels
 
 -- what is read, of which lowering asks two tables

@@ -17,6 +17,7 @@ use Rattle.definition.specs.Contents.{offset, text, textAt, size, nameWord, nam
 use Rattle.definition.specs.Read.{nameAt}
 use Rattle.definition.specs.Numbers.{HEX}
 use Rattle.definition.specs.Lookup.{nameFor, sizePrefix, nameOr, globalName}
+use Rattle.definition.proofs.Runs.{loop-start}
 use Rattle.text.specs.declared.names.Found.{Found}
 use Rattle.text.specs.declared.names.Found.the-variants.{At, Nothing}
 use Rattle.text.specs.Supplied.{found, indexFrom, nameIndex, nameText, textOf, isGlobal, globalText}
@@ -24,9 +25,7 @@ use Rattle.text.specs.Supplied.{found, indexFrom, nameIndex, nameText, t
 -- ---- the loop of `name_for`: n names in all, i passed
 pub index-start : (f : List ℕ) (a n : ℕ) → n ≡ size f names → nameIndex f a ≡ indexFrom f a 0 (n - 0)
 unfolding nameIndex
-index-start f a n e =
-    let k : size f names ≡ n - 0 = omega arith in
-    ap (indexFrom f a 0) k
+index-start f a n = loop-start (indexFrom f a 0) n (size f names)
 
 from-here : (f : List ℕ) (a i k : ℕ) → nameLong f i 0 ≡ a → indexFrom f a i (suc k) ≡ some i
 unfolding indexFrom
@@ -104,25 +103,29 @@ pub among-end : (v : ℕ) (s : List ℕ) (i : ℕ) → length s ≤ i → among 
 unfolding among any
 among-end v s i h = rw (drop-of-length-le s h)
 
+-- ---- what an answer says of the option that it stands for, where there is a way back
+pub answers : {C : Type 0} (code : Option ℕ → C) (back : C → Option ℕ) → back (code none) ≡ none → ((i : ℕ) → back (code (some i)) ≡ some i)
+    → (o : Option ℕ) (c : C) → code o ≡ c → o ≡ back c
+answers code back p q none c h = sym p ∙ ap back h
+answers code back p q (some i) c h = sym (q i) ∙ ap back h
+
+abbrev index : Found → Option ℕ
+index Nothing = none
+index (At i) = some i
+
+pub found-is : (o : Option ℕ) (r : Found) → found o ≡ r → o ≡ index r
+unfolding found
+found-is = answers found index refl (λ i. refl)
+
 -- ---- the returns of `global_name`, by what the lookup answered
-nothing-none : (o : Option ℕ) → found o ≡ Nothing → o ≡ none
-unfolding found
-nothing-none none h = refl
-nothing-none (some i) h = let z : _≡_ {A = ℕ} 0 1 = cc in absurd (omega arith)
-
-at-some : (o : Option ℕ) (i : ℕ) → found o ≡ At i → o ≡ some i
-unfolding found
-at-some none i h = let z : _≡_ {A = ℕ} 0 1 = cc in absurd (omega arith)
-at-some (some j) i h = let e : j ≡ i = cc in ap some e
-
 module _ (f : List ℕ) (t c n : ℕ) (r : Found) (look : r ≡ found (nameIndex f c)) where
   pub global-unnamed : r ≡ Nothing → sizePrefix n ++ HEX c ≡ globalText f t c n
   unfolding globalText textOf nameOr
-  global-unnamed e = rw (nothing-none (nameIndex f c) (sym look ∙ e))
+  global-unnamed e = rw (found-is (nameIndex f c) Nothing (sym look ∙ e))
 
   pub global-named : (i : ℕ) → r ≡ At i → nameText f t i ≡ globalText f t c n
   unfolding globalText textOf nameOr
-  global-named i e = rw (at-some (nameIndex f c) i (sym look ∙ e))
+  global-named i e = rw (found-is (nameIndex f c) (At i) (sym look ∙ e))
 
 -- the text of a name, by the words that were read
 pub name-part : (f : List ℕ) (t i a n : ℕ) → a ≡ nameWord f i 2 → n ≡ nameWord f i 3 → part f (offset f t + a) n ≡ nameText f t i

@@ -17,7 +17,7 @@ use Rattle.definition.specs.Owners.{exprItems, valueItems, items, phiInputs, fi
 use Rattle.definition.specs.Shape.{owned}
 use Rattle.definition.specs.Listing.{padded}
 use Rattle.records.proofs.Items.{size-small}
-use Rattle.records.proofs.Below.{sum-start, sum-turn, sum-le}
+use Rattle.records.proofs.Below.{sum-part}
 use Rattle.records.proofs.Padded.{drop-zeros}
 use Rattle.records.proofs.Parts.{owned-parts}
 use Rattle.values.specs.declared.places.Places.{Places}
@@ -138,20 +138,12 @@ module _ (f : List ℕ) (own : owned f ≡ true) (p : Places) (is : p ≡ places
       ∙ ap (laid t 0) (sym (keys-parts f)) ∙ ap (λ (l : List ℕ). laid l 0 (keysOf f)) zeros
       ∙ laid-padded (length t) (keysOf f) (omega (arith, places-length f own))
 
--- ---- sums of owners' parts: the code's loops carry them along
-pub input-start : (f : List ℕ) → 0 ≡ firstInput f 0
-unfolding firstInput
-input-start f = sum-start (phiInputs f)
-
-pub input-turn : (f : List ℕ) (i : ℕ) {first n : ℕ} → first ≡ firstInput f i → n ≡ phiInputs f i → first + n ≡ firstInput f (i + 1)
-unfolding firstInput
-input-turn f i p q = sum-turn (phiInputs f) p q
-
+-- ---- bounds
 -- where all phis have few inputs, so has each
 pub inputs-fit : (f : List ℕ) (i : ℕ) {n first : ℕ} → firstInput f (size f phis) < 4294967296 → n ≡ size f phis → i < n → first ≡ firstInput f i
     → first + phiInputs f i < 4294967296
 unfolding firstInput
-inputs-fit f i few count here is = omega (arith, input-turn f i is refl, sum-le (phiInputs f) (i + 1) (size f phis) (omega arith))
+inputs-fit f i few count here is = omega (arith, sum-part (phiInputs f) (size f phis) (omega arith) is refl)
 
 -- of bytes: no place is far, and there are few inputs
 module _ (f : List ℕ) (bytes : (k : ℕ) → Fits w8 (getD f k 0)) where

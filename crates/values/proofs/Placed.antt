@@ -1,6 +1,6 @@
 -- What stands at each place of a file's keys: a section's list begins behind the lists of the sections before it, and what an owner has begins behind
 -- what the owners before it have.
-use mathlib.Core.Path.{_≡_, refl, sym, ap, _∙_}
+use mathlib.Core.Path.{_≡_, refl, ap, _∙_}
 use mathlib.Core.Bool.{true}
 use mathlib.Core.List.{List, _++_, map, append-assoc}
 use Prim.Native.Nat.{ℕ, _+_, _-_, _≤_, _<_}
@@ -12,7 +12,7 @@ use Rattle.definition.specs.Contents.{size}
 use Rattle.definition.specs.Owners.{exprItems, valueItems, items, phiInputs, firstInput, firstItem}
 use Rattle.definition.specs.Shape.{owned}
 use Rattle.definition.specs.Listing.{padded}
-use Rattle.records.proofs.Below.{sum-le, sum-turn, sum-same}
+use Rattle.records.proofs.Below.{sum-part, sum-same}
 use Rattle.records.proofs.Parts.{owned-parts}
 use Rattle.values.specs.Keys.{argKey, phiKey, inputKey, stmtKey, itemKey, exprKey, inputKeys, itemKeys, keysOf, placesOf, keyed}
 use Rattle.values.specs.Tables.{at}
@@ -41,6 +41,18 @@ exprList f = map (exprKey f) (range 0 (size f expressions))
 at-part : (l before here rest : List ℕ) (n i : ℕ) → l ≡ before ++ (here ++ rest) → length before ≡ n → i < length here → at l (n + i) ≡ at here i
 at-part l before here rest n i e len h =
     ap (λ (m : List ℕ). at m (n + i)) e ∙ at-right before (here ++ rest) n i len ∙ at-left here rest i h
+
+-- number i of a section's list
+at-row : (l before rest : List ℕ) (g : ℕ → ℕ) (m n i : ℕ) → l ≡ before ++ (map g (range 0 m) ++ rest) → length before ≡ n → i < m → at l (n + i) ≡ g i
+at-row l before rest g m n i e len h = at-part l before (map g (range 0 m)) rest n i e len (omega (arith, map-length g 0 m)) ∙ at-below g m i h
+
+-- number j of what owner i has, which begins at s of all that owners have
+at-owner : (l before rest : List ℕ) (g : ℕ → List ℕ) (m n s i j : ℕ) → l ≡ before ++ (gather g (range 0 m) ++ rest) → length before ≡ n
+    → sumBelow i (λ k. length (g k)) ≡ s → i < m → j < length (g i) → at l (n + (s + j)) ≡ at (g i) j
+at-owner l before rest g m n s i j e len first h k =
+    let b = sum-part (λ (k : ℕ). length (g k)) {i = i} m h refl refl in
+    rw (← first)
+    (at-part l before (gather g (range 0 m)) rest n (sumBelow i (λ (k : ℕ). length (g k)) + j) e len (omega (arith, gather-length g m)) ∙ at-gather g m i j h k)
 
 -- ---- owners' counts
 module _ (f : List ℕ) where
@@ -124,15 +136,11 @@ module _ (f : List ℕ) where
   -- what an owner has is below what all have
   pub input-below : (i j : ℕ) → i < size f phis → j < phiInputs f i → firstInput f i + j < firstInput f (size f phis)
   unfolding firstInput
-  input-below i j h k =
-      let t = sum-turn (phiInputs f) {i = i} refl refl in
-      omega (arith, sum-le (phiInputs f) (i + 1) (size f phis) (omega arith))
+  input-below i j h k = omega (arith, sum-part (phiInputs f) {i = i} (size f phis) h refl refl)
 
   pub item-below : (i j : ℕ) → i < size f statements → j < items f i → firstItem f i + j < firstItem f (size f statements)
   unfolding firstItem
-  item-below i j h k =
-      let t = sum-turn (items f) {i = i} refl refl in
-      omega (arith, sum-le (items f) (i + 1) (size f statements) (omega arith))
+  item-below i j h k = omega (arith, sum-part (items f) {i = i} (size f statements) h refl refl)
 
   -- ---- each place is below their number
   pub arg-here : (i : ℕ) → i < size f args → i < placesOf f .total
@@ -205,34 +213,26 @@ module _ (f : List ℕ) where
 
     pub at-phi : (i : ℕ) → i < size f phis → at (keyed f n) (placesOf f .phis + i) ≡ phiKey f i
     unfolding placesOf
-    at-phi i h =
-        at-part (keyed f n) (argList f) (phiList f) after-phis (size f args) i args-part args-long (omega (arith, phis-long))
-        ∙ at-below (phiKey f) (size f phis) i h
+    at-phi i h = at-row (keyed f n) (argList f) after-phis (phiKey f) (size f phis) (size f args) i args-part args-long h
 
     pub at-input : (i j : ℕ) → i < size f phis → j < phiInputs f i
         → at (keyed f n) (placesOf f .inputs + (firstInput f i + j)) ≡ inputKey f i (firstInput f i + j)
     unfolding inputKeys
     at-input i j h k =
-        at-part (keyed f n) before-inputs (inputList f) after-inputs (placesOf f .inputs) (firstInput f i + j) inputs-part inputs-at
-        (omega (arith, inputs-long, input-below i j h k))
-        ∙ ap (λ (m : ℕ). at (inputList f) (m + j)) (sym (inputs-before i))
-        ∙ at-gather (inputKeys f) (size f phis) i j h (omega (arith, inputs-length i))
+        at-owner (keyed f n) before-inputs after-inputs (inputKeys f) (size f phis) (placesOf f .inputs) (firstInput f i) i j
+        inputs-part inputs-at (inputs-before i) h (omega (arith, inputs-length i))
         ∙ at-map (inputKey f i) (firstInput f i) (phiInputs f i) j k
 
     -- an item of statement i, expressions first
     item-at : owned f ≡ true → (i j : ℕ) → i < size f statements → j < items f i
         → at (keyed f n) (placesOf f .items + (firstItem f i + j)) ≡ at (itemKeys f i) j
     item-at own i j h k =
-        at-part (keyed f n) before-items (itemList f) after-items (placesOf f .items) (firstItem f i + j) items-part (items-at own)
-        (omega (arith, items-long, item-below i j h k))
-        ∙ ap (λ (m : ℕ). at (itemList f) (m + j)) (sym (items-before i))
-        ∙ at-gather (itemKeys f) (size f statements) i j h (omega (arith, items-length i))
+        at-owner (keyed f n) before-items after-items (itemKeys f) (size f statements) (placesOf f .items) (firstItem f i) i j
+        items-part (items-at own) (items-before i) h (omega (arith, items-length i))
 
     module _ (own : owned f ≡ true) where
       pub at-stmt : (i : ℕ) → i < size f statements → at (keyed f n) (placesOf f .stmts + i) ≡ stmtKey f i
-      at-stmt i h =
-          at-part (keyed f n) before-stmts (stmtList f) after-stmts (placesOf f .stmts) i stmts-part (stmts-at own) (omega (arith, stmts-long))
-          ∙ at-below (stmtKey f) (size f statements) i h
+      at-stmt i h = at-row (keyed f n) before-stmts after-stmts (stmtKey f) (size f statements) (placesOf f .stmts) i stmts-part (stmts-at own) h
 
       pub at-item : (i j : ℕ) → i < size f statements → j < valueItems f i
           → at (keyed f n) (placesOf f .items + (firstItem f i + exprItems f i + j)) ≡ itemKey f (firstItem f i + exprItems f i + j)
@@ -246,5 +246,4 @@ module _ (f : List ℕ) where
 
       pub at-expr : (i : ℕ) → i < size f expressions → at (keyed f n) (placesOf f .exprs + i) ≡ exprKey f i
       at-expr i h =
-          at-part (keyed f n) before-exprs (exprList f) (replicate (n - length (keysOf f)) 0) (placesOf f .exprs) i exprs-part (exprs-at own) (omega (arith, exprs-long))
-          ∙ at-below (exprKey f) (size f expressions) i h
+          at-row (keyed f n) before-exprs (replicate (n - length (keysOf f)) 0) (exprKey f) (size f expressions) (placesOf f .exprs) i exprs-part (exprs-at own) h

@@ -234,6 +234,12 @@ tab-zero ks =
     zeros false = refl
 
 -- ---- the same of a file's places, in scratch of n numbers
+-- place p names the value v
+pub record Names (f : List ℕ) (n p : ℕ) (v : Value) : Type 0 where
+  pub here : p < length (keyed f n)
+  pub is : at (keyed f n) p ≡ keyOf v
+  pub small : v .ver < 4294967296
+
 module _ (f : List ℕ) (n : ℕ) where
   pub numbered-length : length (numbered f n) ≡ length (keyed f n)
   unfolding numbered
@@ -274,11 +280,11 @@ module _ (f : List ℕ) (n : ℕ) where
     unfolding table
     table-same = tab-same (keyed f n) g
 
-    module _ (p r k : ℕ) (here : p < length (keyed f n)) (is : at (keyed f n) p ≡ keyOf (value r k)) (small : k < 4294967296) where
-      pub table-read : at (table f n g) (at (numbered f n) p) ≡ g (value r k)
+    module _ (p : ℕ) (v : Value) (by : Names f n p v) where
+      pub table-read : at (table f n g) (at (numbered f n) p) ≡ g v
       unfolding table numbered
-      table-read = tab-read (keyed f n) g p r k here is small
+      table-read = tab-read (keyed f n) g p (v .reg) (v .ver) (by .here) (by .is) (by .small)
 
-      pub table-write : (x : ℕ) → set (table f n g) (at (numbered f n) p) x ≡ table f n (λ w. cond (eqv (value r k) w) x (g w))
+      pub table-write : (x : ℕ) → set (table f n g) (at (numbered f n) p) x ≡ table f n (λ w. cond (eqv v w) x (g w))
       unfolding table numbered
-      table-write = tab-write (keyed f n) g p r k here is small
+      table-write = tab-write (keyed f n) g p (v .reg) (v .ver) (by .here) (by .is) (by .small)

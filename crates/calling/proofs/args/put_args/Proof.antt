@@ -1,5 +1,4 @@
 -- The width decides as in the definition: of 32 bits the arguments are the pushes that wait, otherwise the first list items.
-use Rattle.calling.proofs.Taking.{items-of}
 use Rattle.calling.proofs.Whole.{args-pushed, args-counted}
 use borrow.Author.Needs.{needs}
 use Rattle.calling.proofs.args.put_args.Statement.{statement}
@@ -21,7 +20,7 @@ returns : tie.Need-returns
 returns c = λ E s. args-pushed E _ _ _ _ _ _ (c .before .before .before .before .before .before .before .before .bits-of .ensures) _ _ (c .before .before .before .before .before .before .before .if1 .taken) (c .before .before .before .before .put-waiting .ensures E s)
 
 put-counted-requires : tie.Need-put-counted-requires
-put-counted-requires c κs = (c .before .before .before .before .before .before .before .before .before .before .before .pre .0, items-of _ _ _ _ (c .before .before .before .before .before .before .before .before .before .before .before .pre .1))
+put-counted-requires c κs = search needs
 
 same-length-3 : tie.Need-same-length-3
 same-length-3 c = search needs

@@ -1,11 +1,9 @@
--- Behind the last statement rendering writes the expression as lowering has it, and `(*` and `)` are put around it.
-use Rattle.calling.proofs.Slots.{put-computed}
+-- `(*`, the expression and `)` one behind the other are the pieces asked for.
+use Rattle.room.proofs.Laws.{next, more, one}
+use Rattle.calling.specs.Written.{computedOf}
 use borrow.Author.Needs.{needs}
 use Rattle.calling.proofs.callee.put_computed.Statement.{statement}
 use Rattle.calling.proofs.callee.put_computed.Tie as tie
-
-size-of-requires : tie.Need-size-of-requires
-size-of-requires c κs = search needs
 
 slice-aggregate-put : tie.Need-slice-aggregate-put
 slice-aggregate-put c = search needs
@@ -13,8 +11,8 @@ slice-aggregate-put c = search needs
 put-requires : tie.Need-put-requires
 put-requires c κs = search needs
 
-expr-requires : tie.Need-expr-requires
-expr-requires c κs = search needs
+put-expr-requires : tie.Need-put-expr-requires
+put-expr-requires c κs = search needs
 
 slice-aggregate-put-2 : tie.Need-slice-aggregate-put-2
 slice-aggregate-put-2 c = search needs
@@ -29,16 +27,16 @@ same-length-2 : tie.Need-same-length-2
 same-length-2 c = search needs
 
 returns : tie.Need-returns
-returns c = λ E s. put-computed E _ (c .before .before .before .before .before .before .before .before .before .before .before .before .before .before .before .before .before .before .before .before .before .before .before .before .before .before .before .before .before .before .before .pre .ground .counts) _ _ _ _ _ _ (c .before .before .before .before .before .before .before .before .before .before .before .before .before .before .before .before .before .before .before .before .before .before .before .size-of .ensures) (c .before .before .before .before .before .before .before .before .before .before .before .before .before .before .before .before .before .before .before .put .ensures) (c .before .before .before .before .before .before .before .before .before .before .before .before .expr .ensures E s) (c .before .before .before .before .put2 .ensures)
+unfolding computedOf
+returns c = λ E s. next _ _ _ _ (c .before .before .before .before .before .before .before .before .before .before .before .before .before .before .before .before .before .before .before .put .ensures) (more _ _ _ _ _ (c .before .before .before .before .before .before .before .before .before .before .before .before .put-expr .ensures E s) (one _ _ _ (c .before .before .before .before .put2 .ensures)))
 
 pub put-computed-spec : {M : Type 1} → statement M
 put-computed-spec =
     tie.close
     (tie.spec
-    size-of-requires
     slice-aggregate-put
     put-requires
-    expr-requires
+    put-expr-requires
     slice-aggregate-put-2
     put-requires-2
     same-length

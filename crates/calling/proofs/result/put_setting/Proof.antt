@@ -1,5 +1,6 @@
 -- The name's token, then ` = `: the two tokens asked for.
-use Rattle.calling.proofs.Setting.{put-setting}
+use Rattle.room.proofs.Laws.{next, one}
+use Rattle.calling.specs.Written.{settingOf}
 use borrow.Author.Needs.{needs}
 use Rattle.calling.proofs.result.put_setting.Statement.{statement}
 use Rattle.calling.proofs.result.put_setting.Tie as tie
@@ -20,7 +21,8 @@ same-length-2 : tie.Need-same-length-2
 same-length-2 c = search needs
 
 returns : tie.Need-returns
-returns c = put-setting _ _ _ _ _ _ (c .before .before .before .before .before .before .before .before .before .before .before .before .put-code .ensures) (c .before .before .before .before .put .ensures)
+unfolding settingOf
+returns c = next _ _ _ _ (c .before .before .before .before .before .before .before .before .before .before .before .before .put-code .ensures) (one _ _ _ (c .before .before .before .before .put .ensures))
 
 pub put-setting-spec : {M : Type 1} → statement M
 put-setting-spec =

@@ -1,5 +1,6 @@
 -- The keyword, then a space: the two tokens in order.
-use Rattle.gotos.proofs.Gotos.{go-put}
+use Rattle.room.proofs.Laws.{next, one}
+use Rattle.gotos.specs.Written.{goTokens}
 use borrow.Author.Needs.{needs}
 use Rattle.gotos.proofs.goto.put_go.Statement.{statement}
 use Rattle.gotos.proofs.goto.put_go.Tie as tie
@@ -23,7 +24,8 @@ same-length-2 : tie.Need-same-length-2
 same-length-2 c = search needs
 
 returns : tie.Need-returns
-returns c = go-put _ _ _ (c .before .before .before .before .before .before .before .before .before .before .before .before .put .ensures) (c .before .before .before .before .put2 .ensures)
+unfolding goTokens
+returns c = next _ _ _ _ (c .before .before .before .before .before .before .before .before .before .before .before .before .put .ensures) (one _ _ _ (c .before .before .before .before .put2 .ensures))
 
 pub put-go-spec : {M : Type 1} → statement M
 put-go-spec =

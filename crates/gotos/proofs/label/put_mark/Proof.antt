@@ -1,5 +1,6 @@
 -- The label's name, then a colon: the two tokens of the mark.
-use Rattle.gotos.proofs.Gotos.{mark-put}
+use Rattle.room.proofs.Laws.{next, one}
+use Rattle.gotos.specs.Written.{markTokens}
 use borrow.Author.Needs.{needs}
 use Rattle.gotos.proofs.label.put_mark.Statement.{statement}
 use Rattle.gotos.proofs.label.put_mark.Tie as tie
@@ -20,7 +21,8 @@ same-length-2 : tie.Need-same-length-2
 same-length-2 c = search needs
 
 returns : tie.Need-returns
-returns c = mark-put _ _ _ _ (c .before .before .before .before .before .before .before .before .before .before .before .before .put-label .ensures) (c .before .before .before .before .put .ensures)
+unfolding markTokens
+returns c = next _ _ _ _ (c .before .before .before .before .before .before .before .before .before .before .before .before .put-label .ensures) (one _ _ _ (c .before .before .before .before .put .ensures))
 
 pub put-mark-spec : {M : Type 1} → statement M
 put-mark-spec =

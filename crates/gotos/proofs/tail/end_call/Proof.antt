@@ -1,5 +1,7 @@
 -- Where the result is returned no line follows; else the keyword and `;` are put, and their line ends at the statement's address.
-use Rattle.gotos.proofs.Leaving.{end-put, end-not, end-line}
+use Rattle.room.proofs.Laws.{next, one}
+use Rattle.gotos.specs.Written.{endTokens}
+use Rattle.gotos.proofs.Leaving.{end-not, end-line}
 use Rattle.gotos.proofs.Lines.{stmt-put}
 use borrow.Author.Needs.{needs}
 use Rattle.gotos.proofs.tail.end_call.Statement.{statement}
@@ -33,7 +35,8 @@ same-length-3 : tie.Need-same-length-3
 same-length-3 c = search needs
 
 returns-2 : tie.Need-returns-2
-returns-2 c = end-line _ _ _ _ _ (c .before .before .before .before .before .before .before .before .before .before .before .before .before .before .before .before .before .before .before .before .if1 .left) (stmt-put _ _ _ _ _ _ _ _ _ _ (end-put _ _ _ (c .before .before .before .before .before .before .before .before .before .before .before .before .before .before .before .before .put .ensures) (c .before .before .before .before .before .before .before .before .put2 .ensures)) (c .before .before .end-stmt .ensures))
+unfolding endTokens
+returns-2 c = end-line _ _ _ _ _ (c .before .before .before .before .before .before .before .before .before .before .before .before .before .before .before .before .before .before .before .before .if1 .left) (stmt-put _ _ _ _ _ _ _ _ _ _ (next _ _ _ _ (c .before .before .before .before .before .before .before .before .before .before .before .before .before .before .before .before .put .ensures) (one _ _ _ (c .before .before .before .before .before .before .before .before .put2 .ensures))) (c .before .before .end-stmt .ensures))
 
 pub end-call-spec : {M : Type 1} → statement M
 end-call-spec =

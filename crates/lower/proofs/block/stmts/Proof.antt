@@ -26,7 +26,7 @@ loop-holds : tie.Need-loop-holds Inv-loop μ-loop
 loop-holds c = ((λ E s. refl), (λ E. count-first E _ _), stands-item _ _ _ (c .before .before .before .before .before .before .before .before .before .before .before .before .before .pre .1 .0 .1), omega arith, omega arith, omega (arith, c .before .before .before .before .before .before .before .before .before .before .before .before .before .pre .1 .0 .1 .here, c .before .before .before .before .before .before .before .before .before .before .before .before .before .pre .1 .0 .2), c .before .before .before .before .before .before .before .before .before .before .before .before .before .pre .1 .0 .1 .here, refl, refl, refl)
 
 stmt-requires : tie.Need-stmt-requires Inv-loop μ-loop
-stmt-requires c κs = let inv = c .before .before .before .before .loop .inv in (c .before .before .before .before .before .before .before .before .before .before .before .before .before .before .before .before .before .before .pre .0, (record { inside = c .before .before .before .before .before .before .before .before .before .before .before .before .before .before .before .before .before .before .pre .1 .0 .0; start = omega (arith, inv .4, inv .6); before-end = c .before .before .before .loop-test .taken; ends = c .before .before .before .before .before .before .before .before .before .before .before .before .before .before .before .before .before .before .pre .1 .0 .2; first = inv .2; waits = inv .3 }, c .before .before .before .before .before .before .before .before .before .before .before .before .before .before .before .before .before .before .pre .1 .1))
+stmt-requires c κs = let inv = c .before .before .before .before .loop .inv in (c .before .before .before .before .before .before .before .before .before .before .before .before .before .before .before .before .before .before .pre .0, (record { inside = c .before .before .before .before .before .before .before .before .before .before .before .before .before .before .before .before .before .before .pre .1 .0 .0; before-end = c .before .before .before .loop-test .taken; ends = c .before .before .before .before .before .before .before .before .before .before .before .before .before .before .before .before .before .before .pre .1 .0 .2; first = inv .2 }, c .before .before .before .before .before .before .before .before .before .before .before .before .before .before .before .before .before .before .pre .1 .1))
 
 next-item-requires : tie.Need-next-item-requires Inv-loop μ-loop
 next-item-requires c κs =

@@ -1,17 +1,17 @@
--- The comma, then the expression, which rendering writes as lowering does since behind the last statement every value in place is open.
-use Rattle.lowering.proofs.Commas.{put-arg}
+-- The comma where others stand before it, then the expression.
+use mathlib.Core.Path.{ap}
+use Rattle.room.specs.Room.{seen}
+use Rattle.room.proofs.Laws.{more}
+use Rattle.lowering.specs.Commas.{argOf}
 use borrow.Author.Needs.{needs}
 use Rattle.lowering.proofs.list.put_arg.Statement.{statement}
 use Rattle.lowering.proofs.list.put_arg.Tie as tie
 
-size-of-requires : tie.Need-size-of-requires
-size-of-requires c κs = search needs
-
 put-comma-requires : tie.Need-put-comma-requires
 put-comma-requires c κs = search needs
 
-expr-requires : tie.Need-expr-requires
-expr-requires c κs = search needs
+put-expr-requires : tie.Need-put-expr-requires
+put-expr-requires c κs = search needs
 
 same-length : tie.Need-same-length
 same-length c = search needs
@@ -20,9 +20,10 @@ same-length-2 : tie.Need-same-length-2
 same-length-2 c = search needs
 
 returns : tie.Need-returns
-returns c = λ E s. put-arg E _ (c .before .before .before .before .before .before .before .before .before .before .before .before .before .before .before .before .before .before .before .before .before .before .pre .ground .counts) _ _ _ _ _ _ (c .before .before .before .before .before .before .before .before .before .before .before .put-comma .ensures) (c .before .before .before .before .before .before .before .before .before .before .before .before .before .before .size-of .ensures) (c .before .before .before .before .expr .ensures E s)
+unfolding argOf
+returns c = λ E s. more _ _ _ _ _ (ap seen (c .before .before .before .before .before .before .before .before .before .before .before .put-comma .ensures)) (c .before .before .before .before .put-expr .ensures E s)
 
 pub put-arg-spec : {M : Type 1} → statement M
 put-arg-spec =
     tie.close
-    (tie.spec size-of-requires put-comma-requires expr-requires same-length same-length-2 returns)
+    (tie.spec put-comma-requires put-expr-requires same-length same-length-2 returns)

@@ -9,12 +9,12 @@ use Rattle.definition.specs.Offsets.{Known, look}
 use Rattle.definition.specs.Edition.{Edition, statements}
 use Rattle.definition.specs.Contents.{size, text}
 use Rattle.definition.specs.Lists.{gather, range}
+use Rattle.definition.proofs.Runs.{loop-start, lists-turn, lists-end}
 use Rattle.values.specs.Tables.{table}
 use Rattle.values.specs.Keys.{placesOf}
 use Rattle.reads.specs.Counts.{visit, slots}
 use Rattle.sums.proofs.Naming.{grounded}
 use Rattle.marks.specs.Reading.{classed, reading}
-use Rattle.marks.proofs.Visiting.{visits-start, visits-turn, visits-end}
 use Rattle.marks.proofs.Rooting.{read-done}
 use Rattle.marks.proofs.roots.read_roots.Statement.{statement}
 use Rattle.marks.proofs.roots.read_roots.Tie as tie
@@ -32,7 +32,7 @@ size-of-requires : tie.Need-size-of-requires Inv-loop μ-loop
 size-of-requires c κs = search needs
 
 loop-holds : tie.Need-loop-holds Inv-loop μ-loop
-loop-holds c = ((λ E k s e. visits-start _ (λ (j : ℕ). slots (c .before .before .before .before .before .before .before .before .before .args .numbers .now) (placesOf (c .before .before .before .before .before .before .before .before .before .args .f .now) .exprs) (reading E (c .before .before .before .before .before .before .before .before .before .args .f .now) k j)) _ _ _ (c .size-of .ensures)), c .size-of .ensures, c .before .places-of .ensures, refl)
+loop-holds c = let given = c .before .before .before .before .before .before .before .before .before .args in ((λ E k s e. loop-start (λ (m : ℕ). visit (classed (given .roots .now)) (given .tab .now) (gather (λ (j : ℕ). slots (given .numbers .now) (placesOf (given .f .now) .exprs) (reading E (given .f .now) k j)) (range 0 m))) _ _ (c .size-of .ensures)), c .size-of .ensures, c .before .places-of .ensures, refl)
 
 mark-stmt-requires : tie.Need-mark-stmt-requires Inv-loop μ-loop
 mark-stmt-requires c κs = let inv = c .before .before .loop .inv in (grounded _ _ _ (inv .2) (c .before .before .before .before .before .before .before .before .before .before .before .before .pre .0), (c .before .before .before .before .before .before .before .before .before .before .before .before .pre .1 .0, omega (arith, c .before .loop-test .taken, inv .1)))
@@ -44,16 +44,18 @@ loop-less : tie.Need-loop-less Inv-loop μ-loop
 loop-less c = omega arith
 
 loop-again : tie.Need-loop-again Inv-loop μ-loop
-loop-again c = let inv = c .before .before .before .before .before .loop .inv in ((λ E k s e. inv .0 E k s e ∙ visits-turn _ (λ (j : ℕ). slots (c .before .before .before .before .before .before .before .before .before .before .before .before .before .before .before .args .numbers .now) (placesOf (c .before .before .before .before .before .before .before .before .before .before .before .before .before .before .before .args .f .now) .exprs) (reading E (c .before .before .before .before .before .before .before .before .before .before .before .before .before .before .before .args .f .now) k j)) _ _ _ _ (c .before .before .before .before .loop-test .taken) (c .before .before .mark-stmt .ensures E k s e)), inv .1, inv .2, c .before .before .mark-stmt .kept .0 ∙ inv .3)
+unfolding visit
+loop-again c = let inv = c .before .before .before .before .before .loop .inv in ((λ E k s e. inv .0 E k s e ∙ lists-turn (visit _) _ (λ l. refl) (λ l x xs. refl) (λ (j : ℕ). slots (c .before .before .before .before .before .before .before .before .before .before .before .before .before .before .before .args .numbers .now) (placesOf (c .before .before .before .before .before .before .before .before .before .before .before .before .before .before .before .args .f .now) .exprs) (reading E (c .before .before .before .before .before .before .before .before .before .before .before .before .before .before .before .args .f .now) k j)) _ _ _ _ (c .before .before .before .before .loop-test .taken) (c .before .before .mark-stmt .ensures E k s e)), inv .1, inv .2, c .before .before .mark-stmt .kept .0 ∙ inv .3)
 
 same-length : tie.Need-same-length Inv-loop μ-loop
 same-length c = c .before .loop .inv .3
 
 returns : tie.Need-returns Inv-loop μ-loop
+unfolding visit
 returns c =
     let given = c .before .before .before .before .before .before .before .before .before .before .before .args in
     let pre = c .before .before .before .before .before .before .before .before .before .before .before .pre in
-    read-done (given .f .now) (c .before .before .before .before .before .before .before .before .before .shared-slice-known .given) _ (given .numbers .now) (given .offsets .now) (given .roots .now) _ _ (pre .0) (pre .1 .1) (λ E k s e. visits-end _ (λ (j : ℕ). slots (given .numbers .now) (placesOf (given .f .now) .exprs) (reading E (given .f .now) k j)) _ _ _ _ (c .loop-test .left) (c .before .loop .inv .0 E k s e))
+    read-done (given .f .now) (c .before .before .before .before .before .before .before .before .before .shared-slice-known .given) _ (given .numbers .now) (given .offsets .now) (given .roots .now) _ _ (pre .0) (pre .1 .1) (λ E k s e. lists-end (visit _) _ (λ l. refl) (λ l x xs. refl) (λ (j : ℕ). slots (given .numbers .now) (placesOf (given .f .now) .exprs) (reading E (given .f .now) k j)) _ _ _ _ (c .loop-test .left) (c .before .loop .inv .0 E k s e))
 
 pub read-roots-spec : {M : Type 1} → statement M
 read-roots-spec =

@@ -8,7 +8,7 @@ use Rattle.definition.specs.Lists.{gather, range}
 use Rattle.definition.specs.Owners.{firstInput}
 use Rattle.naming.specs.Walk.{walked, phiSpots}
 use Rattle.names.specs.Spots.{known, state}
-use Rattle.naming.proofs.Walking.{runs-turn, runs-end}
+use Rattle.definition.proofs.Runs.{lists-turn, lists-end}
 use Rattle.naming.proofs.Small.{input-next, inputs-fit}
 use Rattle.naming.proofs.Standing.{stands-input, stands-item, stands-made}
 use mathlib.Core.Path.{ap}
@@ -40,7 +40,8 @@ loop-less : tie.Need-loop-less Inv-loop μ-loop
 loop-less c = omega arith
 
 loop-again : tie.Need-loop-again Inv-loop μ-loop
-loop-again c = let inv = c .before .before .before .before .before .before .before .before .before .loop .inv in (inv .0 ∙ runs-turn _ (phiSpots (c .before .before .before .before .before .before .before .before .before .before .before .before .before .before .before .before .before .args .f .now)) _ _ _ _ (c .before .before .before .before .before .before .before .before .loop-test .taken) (c .before .before .before .before .before .name-phi .ensures), omega (arith, inv .1, c .phi-inputs .ensures, input-next (c .before .before .before .before .before .before .before .before .before .before .before .before .before .before .before .before .before .args .f .now) (c .before .before .before .before .before .before .before .before .before .before .before .before .before .before .before .before .before .pre .0 .0) (c .before .before .before .before .before .before .before .before .before .loop .i)), omega (arith, c .before .before .before .before .before .before .before .before .loop-test .taken), c .before .before .before .before .before .name-phi .kept .0 ∙ inv .3, c .before .before .before .before .before .name-phi .kept .1 .0 ∙ inv .4)
+unfolding walked
+loop-again c = let inv = c .before .before .before .before .before .before .before .before .before .loop .inv in (inv .0 ∙ lists-turn (walked _) _ (λ S. refl) (λ S x xs. refl) (phiSpots (c .before .before .before .before .before .before .before .before .before .before .before .before .before .before .before .before .before .args .f .now)) _ _ _ _ (c .before .before .before .before .before .before .before .before .loop-test .taken) (c .before .before .before .before .before .name-phi .ensures), omega (arith, inv .1, c .phi-inputs .ensures, input-next (c .before .before .before .before .before .before .before .before .before .before .before .before .before .before .before .before .before .args .f .now) (c .before .before .before .before .before .before .before .before .before .before .before .before .before .before .before .before .before .pre .0 .0) (c .before .before .before .before .before .before .before .before .before .loop .i)), omega (arith, c .before .before .before .before .before .before .before .before .loop-test .taken), c .before .before .before .before .before .name-phi .kept .0 ∙ inv .3, c .before .before .before .before .before .name-phi .kept .1 .0 ∙ inv .4)
 
 same-length : tie.Need-same-length Inv-loop μ-loop
 same-length c = c .before .loop .inv .3
@@ -49,7 +50,8 @@ same-length-2 : tie.Need-same-length-2 Inv-loop μ-loop
 same-length-2 c = c .before .loop .inv .4
 
 returns : tie.Need-returns Inv-loop μ-loop
-returns c = let inv = c .before .loop .inv in let e : c .before .loop .i ≡ c .before .before .before .before .before .before .before .before .before .args .b = omega (arith, inv .2, c .loop-test .left) in record { says = runs-end _ (phiSpots (c .before .before .before .before .before .before .before .before .before .args .f .now)) _ _ _ _ (c .loop-test .left) (inv .0); stands = stands-made _ _ _ _ _ _ (inv .1 ∙ ap (firstInput (c .before .before .before .before .before .before .before .before .before .args .f .now)) e) (stands-item _ _ _ _ _ (c .before .before .before .before .before .before .before .before .before .pre .1 .2)) }
+unfolding walked
+returns c = let inv = c .before .loop .inv in let e : c .before .loop .i ≡ c .before .before .before .before .before .before .before .before .before .args .b = omega (arith, inv .2, c .loop-test .left) in record { says = lists-end (walked _) _ (λ S. refl) (λ S x xs. refl) (phiSpots (c .before .before .before .before .before .before .before .before .before .args .f .now)) _ _ _ _ (c .loop-test .left) (inv .0); stands = stands-made _ _ _ _ _ _ (inv .1 ∙ ap (firstInput (c .before .before .before .before .before .before .before .before .before .args .f .now)) e) (stands-item _ _ _ _ _ (c .before .before .before .before .before .before .before .before .before .pre .1 .2)) }
 
 pub name-phis-spec : {M : Type 1} → statement M
 name-phis-spec =

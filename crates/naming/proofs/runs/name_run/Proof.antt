@@ -1,6 +1,6 @@
 -- The mentions before k are named and those from k up to b are left; each turn names one more.
 use borrow.Author.Needs.{needs}
-use Rattle.naming.proofs.Walking.{each-turn, each-end}
+use Rattle.definition.proofs.Runs.{each-turn, each-end}
 use Rattle.naming.specs.Walk.{walked, runSpot}
 use Rattle.names.specs.Spots.{known, state, named}
 use Rattle.definition.specs.Lists.{range}
@@ -33,7 +33,8 @@ loop-less : tie.Need-loop-less Inv-loop μ-loop
 loop-less c = search needs
 
 loop-again : tie.Need-loop-again Inv-loop μ-loop
-loop-again c = let inv = c .before .before .before .before .before .before .before .before .before .loop .inv in (inv .0 ∙ each-turn _ (runSpot (c .before .before .before .before .before .before .before .before .before .before .before .before .before .before .before .before .before .args .f .now) (c .before .before .before .before .before .before .before .before .before .before .before .before .before .before .before .before .before .args .order .now) (c .before .before .before .before .before .before .before .before .before .before .before .before .before .before .before .before .before .args .run)) _ _ _ _ (c .before .before .before .before .before .before .before .before .loop-test .taken) (c .before .before .before .before .name-key .ensures ∙ ap (named _ _) (c .before .before .before .before .before .before .before .mention-at .ensures)), c .before .before .before .before .name-key .kept .0 ∙ inv .1, c .before .before .before .before .name-key .kept .1 .0 ∙ inv .2)
+unfolding walked
+loop-again c = let inv = c .before .before .before .before .before .before .before .before .before .loop .inv in (inv .0 ∙ each-turn (walked _) _ (λ S. refl) (λ S x xs. refl) (runSpot (c .before .before .before .before .before .before .before .before .before .before .before .before .before .before .before .before .before .args .f .now) (c .before .before .before .before .before .before .before .before .before .before .before .before .before .before .before .before .before .args .order .now) (c .before .before .before .before .before .before .before .before .before .before .before .before .before .before .before .before .before .args .run)) _ _ _ _ (c .before .before .before .before .before .before .before .before .loop-test .taken) (c .before .before .before .before .name-key .ensures ∙ ap (named _ _) (c .before .before .before .before .before .before .before .mention-at .ensures)), c .before .before .before .before .name-key .kept .0 ∙ inv .1, c .before .before .before .before .name-key .kept .1 .0 ∙ inv .2)
 
 same-length : tie.Need-same-length Inv-loop μ-loop
 same-length c = c .before .loop .inv .1
@@ -42,7 +43,8 @@ same-length-2 : tie.Need-same-length-2 Inv-loop μ-loop
 same-length-2 c = c .before .loop .inv .2
 
 returns : tie.Need-returns Inv-loop μ-loop
-returns c = each-end _ (runSpot (c .before .before .before .before .before .before .before .before .before .args .f .now) (c .before .before .before .before .before .before .before .before .before .args .order .now) (c .before .before .before .before .before .before .before .before .before .args .run)) _ _ _ _ (c .loop-test .left) (c .before .loop .inv .0)
+unfolding walked
+returns c = each-end (walked _) _ (λ S. refl) (λ S x xs. refl) (runSpot (c .before .before .before .before .before .before .before .before .before .args .f .now) (c .before .before .before .before .before .before .before .before .before .args .order .now) (c .before .before .before .before .before .before .before .before .before .args .run)) _ _ _ _ (c .loop-test .left) (c .before .loop .inv .0)
 
 pub name-run-spec : {M : Type 1} → statement M
 name-run-spec =

@@ -7,7 +7,7 @@ use Rattle.definition.specs.Lists.{gather, range}
 use Rattle.names.specs.Spots.{known, state}
 use Rattle.naming.specs.Walk.{walked, stmtSpots}
 use Rattle.naming.specs.Given.{standing}
-use Rattle.naming.proofs.Walking.{runs-turn, runs-end}
+use Rattle.definition.proofs.Runs.{lists-turn, lists-end}
 use Rattle.naming.proofs.Standing.{stands-item, stands-on}
 use Rattle.naming.proofs.statements.name_stmts.Statement.{statement}
 use Rattle.naming.proofs.statements.name_stmts.Tie as tie
@@ -34,7 +34,8 @@ loop-less : tie.Need-loop-less Inv-loop μ-loop
 loop-less c = omega (arith, c .before .before .before .before .before .before .before .before .before .if1 .taken)
 
 loop-again : tie.Need-loop-again Inv-loop μ-loop
-loop-again c = let inv = c .before .before .before .before .before .before .before .before .before .before .before .loop .inv in (inv .0 ∙ runs-turn _ (stmtSpots (c .before .before .before .before .before .before .before .before .before .before .before .before .before .before .before .before .before .before .before .before .args .f .now)) _ _ _ _ (c .before .before .before .before .before .before .before .before .before .if1 .taken) (c .before .before .before .before .before .before .name-stmt .ensures), stands-on _ _ _ _ _ (inv .1) _ _ _ (c .before .next-item .ensures), omega (arith, c .before .before .before .before .before .before .before .before .before .if1 .taken), c .before .before .before .before .before .before .name-stmt .kept .0 ∙ inv .3, c .before .before .before .before .before .before .name-stmt .kept .1 .0 ∙ inv .4)
+unfolding walked
+loop-again c = let inv = c .before .before .before .before .before .before .before .before .before .before .before .loop .inv in (inv .0 ∙ lists-turn (walked _) _ (λ S. refl) (λ S x xs. refl) (stmtSpots (c .before .before .before .before .before .before .before .before .before .before .before .before .before .before .before .before .before .before .before .before .args .f .now)) _ _ _ _ (c .before .before .before .before .before .before .before .before .before .if1 .taken) (c .before .before .before .before .before .before .name-stmt .ensures), stands-on _ _ _ _ _ (inv .1) _ _ _ (c .before .next-item .ensures), omega (arith, c .before .before .before .before .before .before .before .before .before .if1 .taken), c .before .before .before .before .before .before .name-stmt .kept .0 ∙ inv .3, c .before .before .before .before .before .before .name-stmt .kept .1 .0 ∙ inv .4)
 
 same-length : tie.Need-same-length Inv-loop μ-loop
 same-length c = c .before .before .loop .inv .3
@@ -43,7 +44,8 @@ same-length-2 : tie.Need-same-length-2 Inv-loop μ-loop
 same-length-2 c = c .before .before .loop .inv .4
 
 returns : tie.Need-returns Inv-loop μ-loop
-returns c = let inv = c .before .before .loop .inv in let e : c .before .before .loop .v .stmt ≡ c .before .before .before .before .before .before .before .before .before .before .before .args .b = omega (arith, inv .2, c .if1 .left) in record { says = runs-end _ (stmtSpots (c .before .before .before .before .before .before .before .before .before .before .before .args .f .now)) _ _ _ _ (c .if1 .left) (inv .0); stands = inv .1 ∙ ap (λ (t : ℕ). standing (c .before .before .before .before .before .before .before .before .before .before .before .args .f .now) (c .before .before .before .before .before .before .before .before .before .before .before .args .w .phi) t (c .before .before .loop .v .next)) e }
+unfolding walked
+returns c = let inv = c .before .before .loop .inv in let e : c .before .before .loop .v .stmt ≡ c .before .before .before .before .before .before .before .before .before .before .before .args .b = omega (arith, inv .2, c .if1 .left) in record { says = lists-end (walked _) _ (λ S. refl) (λ S x xs. refl) (stmtSpots (c .before .before .before .before .before .before .before .before .before .before .before .args .f .now)) _ _ _ _ (c .if1 .left) (inv .0); stands = inv .1 ∙ ap (λ (t : ℕ). standing (c .before .before .before .before .before .before .before .before .before .before .before .args .f .now) (c .before .before .before .before .before .before .before .before .before .before .before .args .w .phi) t (c .before .before .loop .v .next)) e }
 
 pub name-stmts-spec : {M : Type 1} → statement M
 name-stmts-spec =

@@ -1,6 +1,6 @@
 -- The blocks before b are named and the walk stands where the phis and statements of b begin; behind the last block no spot is left.
 use Rattle.naming.proofs.Standing.{stands-first, blocks-start}
-use Rattle.naming.proofs.Walking.{runs-turn, runs-end}
+use Rattle.definition.proofs.Runs.{lists-turn, lists-end}
 use Rattle.naming.specs.Given.{standing}
 use Rattle.names.specs.Spots.{known, state}
 use Rattle.naming.specs.Walk.{walked, blockSpots, spots}
@@ -42,7 +42,8 @@ loop-less : tie.Need-loop-less Inv-loop μ-loop
 loop-less c = omega arith
 
 loop-again : tie.Need-loop-again Inv-loop μ-loop
-loop-again c = let inv = c .before .before .before .before .before .before .before .before .loop .inv in (inv .0 ∙ runs-turn _ (blockSpots (c .before .before .before .before .before .before .before .before .before .before .before .before .before .before .before .before .before .before .before .args .f .now)) _ _ _ _ (c .before .before .before .before .before .before .before .loop-test .taken) (c .before .before .before .before .name-block .ensures .says), c .before .before .before .before .name-block .ensures .stands, inv .2, inv .3, c .before .before .before .before .name-block .kept .0 ∙ inv .4, c .before .before .before .before .name-block .kept .1 .0 ∙ inv .5)
+unfolding walked
+loop-again c = let inv = c .before .before .before .before .before .before .before .before .loop .inv in (inv .0 ∙ lists-turn (walked _) _ (λ S. refl) (λ S x xs. refl) (blockSpots (c .before .before .before .before .before .before .before .before .before .before .before .before .before .before .before .before .before .before .before .args .f .now)) _ _ _ _ (c .before .before .before .before .before .before .before .loop-test .taken) (c .before .before .before .before .name-block .ensures .says), c .before .before .before .before .name-block .ensures .stands, inv .2, inv .3, c .before .before .before .before .name-block .kept .0 ∙ inv .4, c .before .before .before .before .name-block .kept .1 .0 ∙ inv .5)
 
 same-length : tie.Need-same-length Inv-loop μ-loop
 same-length c = c .before .loop .inv .4
@@ -51,7 +52,8 @@ same-length-2 : tie.Need-same-length-2 Inv-loop μ-loop
 same-length-2 c = c .before .loop .inv .5
 
 returns : tie.Need-returns Inv-loop μ-loop
-returns c = runs-end _ (blockSpots (c .before .before .before .before .before .before .before .before .before .before .before .before .args .f .now)) _ _ _ _ (c .loop-test .left) (c .before .loop .inv .0)
+unfolding walked
+returns c = lists-end (walked _) _ (λ S. refl) (λ S x xs. refl) (blockSpots (c .before .before .before .before .before .before .before .before .before .before .before .before .args .f .now)) _ _ _ _ (c .loop-test .left) (c .before .loop .inv .0)
 
 pub name-blocks-spec : {M : Type 1} → statement M
 name-blocks-spec =

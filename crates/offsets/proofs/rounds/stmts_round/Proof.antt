@@ -1,11 +1,12 @@
 -- The definitions of the first i statements have run; a step runs the next one's behind them, and a change in either is a change.
 use Rattle.offsets.proofs.Walking.{within}
-use Rattle.offsets.proofs.Running.{stmts-start, stmts-turn, stmts-end}
+use Rattle.offsets.proofs.Running.{stmts-parts, both-ran, mine-none, nothing-ran, all-ran}
 use Rattle.offsets.specs.Ran.{Ran}
 use Rattle.offsets.specs.Defs.{mine, stmtDefs}
 use Rattle.records.proofs.Items.{size-small}
 use Rattle.definition.specs.Contents.{text}
 use Rattle.definition.specs.Edition.{Edition}
+use Rattle.definition.specs.Lists.{gather, range}
 use lib.ListN.{length}
 use borrow.Author.Needs.{needs}
 use native.Mathlib.Omega.{arith}
@@ -21,7 +22,8 @@ abbrev μ-loop : tie.MeasureT-loop
 μ-loop tab₀ f t numbers places own from n changed₀ i₀ tab changed i = n - i
 
 loop-holds : tie.Need-loop-holds Inv-loop μ-loop
-loop-holds c = (omega arith, refl, λ E s. stmts-start _ _ _ E _ _)
+unfolding stmtDefs range gather
+loop-holds c = (omega arith, refl, λ E s. nothing-ran _ _ _ _ _ (mine-none _))
 
 add-stmt-step : tie.Need-add-stmt-step Inv-loop μ-loop
 add-stmt-step c = omega (arith, size-small (c .before .before .before .before .before .before .args .f .now) (c .before .before .before .before .shared-slice-known .given) 4, c .before .before .before .before .before .before .pre .1 .1)
@@ -39,13 +41,13 @@ loop-less : tie.Need-loop-less Inv-loop μ-loop
 loop-less c = omega arith
 
 loop-again : tie.Need-loop-again Inv-loop μ-loop
-loop-again c = (omega arith, c .before .before .before .stmt-step .kept .0 ∙ c .before .before .before .before .before .before .loop .inv .1, λ E s. stmts-turn _ _ _ E _ _ _ _ _ _ _ _ (c .either .ensures) (c .before .before .before .before .before .before .loop .inv .2 E s) (c .before .before .before .stmt-step .ensures E s))
+loop-again c = (omega arith, c .before .before .before .stmt-step .kept .0 ∙ c .before .before .before .before .before .before .loop .inv .1, λ E s. both-ran _ _ _ _ _ _ _ _ _ _ _ _ (stmts-parts E _ _ _) (c .either .ensures) (c .before .before .before .before .before .before .loop .inv .2 E s) (c .before .before .before .stmt-step .ensures E s))
 
 same-length : tie.Need-same-length Inv-loop μ-loop
 same-length c = c .before .loop .inv .1
 
 returns : tie.Need-returns Inv-loop μ-loop
-returns c = λ E s. stmts-end _ _ _ E _ _ _ _ _ _ (c .before .loop .inv .0) (c .loop-test .left) (c .before .loop .inv .2 E s)
+returns c = λ E s. all-ran _ _ _ (stmtDefs E _ _) _ _ _ _ _ _ (c .before .loop .inv .0) (c .loop-test .left) refl (c .before .loop .inv .2 E s)
 
 pub stmts-round-spec : {M : Type 1} → statement M
 stmts-round-spec =

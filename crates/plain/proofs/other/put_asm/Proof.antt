@@ -1,5 +1,6 @@
 -- By what is set: one variable gets the form with its name, nothing and more than one the plain block.
-use Rattle.plain.proofs.Printing.{asm-nothing, asm-one, asm-more}
+use Rattle.plain.specs.Asm.{asmOf}
+use Rattle.plain.proofs.Printing.{asm-put}
 use borrow.Author.Needs.{needs}
 use Rattle.plain.proofs.other.put_asm.Statement.{statement}
 use Rattle.plain.proofs.other.put_asm.Tie as tie
@@ -29,7 +30,8 @@ same-length-2 : tie.Need-same-length-2
 same-length-2 c = search needs
 
 returns : tie.Need-returns
-returns c = λ E s. asm-nothing _ _ _ _ _ (c .before .before .before .before .before .before .before .enum-told .given .1) (c .before .before .before .before .put-block .ensures E s)
+unfolding asmOf
+returns c = λ E s. asm-put _ _ _ _ _ _ (c .before .before .before .before .before .before .before .enum-told .given .1) (c .before .before .before .before .put-block .ensures E s)
 
 same-length-3 : tie.Need-same-length-3
 same-length-3 c = search needs
@@ -38,7 +40,8 @@ same-length-4 : tie.Need-same-length-4
 same-length-4 c = search needs
 
 returns-2 : tie.Need-returns-2
-returns-2 c = λ E s. asm-one _ _ _ _ _ _ (c .before .before .before .before .before .before .before .before .s .given .1) (c .before .before .before .before .put-call .ensures E s)
+unfolding asmOf
+returns-2 c = λ E s. asm-put _ _ _ _ _ _ (c .before .before .before .before .before .before .before .before .s .given .1) (c .before .before .before .before .put-call .ensures E s)
 
 same-length-5 : tie.Need-same-length-5
 same-length-5 c = search needs
@@ -47,7 +50,8 @@ same-length-6 : tie.Need-same-length-6
 same-length-6 c = search needs
 
 returns-3 : tie.Need-returns-3
-returns-3 c = λ E s. asm-more _ _ _ _ _ (c .before .before .before .before .before .before .before .enum-told2 .given .1) (c .before .before .before .before .put-block2 .ensures E s)
+unfolding asmOf
+returns-3 c = λ E s. asm-put _ _ _ _ _ _ (c .before .before .before .before .before .before .before .enum-told2 .given .1) (c .before .before .before .before .put-block2 .ensures E s)
 
 pub put-asm-spec : {M : Type 1} → statement M
 put-asm-spec =

@@ -1,5 +1,6 @@
 -- The keyword, then the text between its braces as one token: the two tokens of the block.
-use Rattle.plain.proofs.Printing.{block-put}
+use Rattle.room.proofs.Laws.{next}
+use Rattle.plain.specs.Asm.{asmBlock}
 use borrow.Author.Needs.{needs}
 use Rattle.plain.proofs.other.put_block.Statement.{statement}
 use Rattle.plain.proofs.other.put_block.Tie as tie
@@ -26,7 +27,8 @@ same-length-2 : tie.Need-same-length-2
 same-length-2 c = search needs
 
 returns : tie.Need-returns
-returns c = λ E s. block-put _ _ _ _ (c .before .before .before .before .before .before .before .before .before .before .before .before .before .put .ensures) (c .before .before .before .before .put-between .ensures E s)
+unfolding asmBlock
+returns c = λ E s. next _ _ _ _ (c .before .before .before .before .before .before .before .before .before .before .before .before .before .put .ensures) (c .before .before .before .before .put-between .ensures E s)
 
 pub put-block-spec : {M : Type 1} → statement M
 put-block-spec =

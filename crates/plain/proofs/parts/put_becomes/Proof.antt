@@ -1,5 +1,6 @@
 -- The sign ` = `, the expression and `;` one behind the other are the three pieces asked for.
-use Rattle.plain.proofs.Writing.{becomes-put}
+use Rattle.room.proofs.Laws.{next, more, one}
+use Rattle.plain.specs.Pieces.{becomes}
 use borrow.Author.Needs.{needs}
 use Rattle.plain.proofs.parts.put_becomes.Statement.{statement}
 use Rattle.plain.proofs.parts.put_becomes.Tie as tie
@@ -26,7 +27,8 @@ same-length-2 : tie.Need-same-length-2
 same-length-2 c = search needs
 
 returns : tie.Need-returns
-returns c = λ E s. becomes-put _ _ _ _ E _ _ (c .before .before .before .before .before .before .before .before .before .before .before .before .before .before .before .before .before .before .before .put .ensures) (c .before .before .before .before .before .before .before .before .before .before .before .before .put-expr .ensures E s) (c .before .before .before .before .put2 .ensures)
+unfolding becomes
+returns c = λ E s. next _ _ _ _ (c .before .before .before .before .before .before .before .before .before .before .before .before .before .before .before .before .before .before .before .put .ensures) (more _ _ _ _ _ (c .before .before .before .before .before .before .before .before .before .before .before .before .put-expr .ensures E s) (one _ _ _ (c .before .before .before .before .put2 .ensures)))
 
 pub put-becomes-spec : {M : Type 1} → statement M
 put-becomes-spec =

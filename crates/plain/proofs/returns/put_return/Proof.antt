@@ -1,5 +1,6 @@
 -- The keyword, what is given back if anything, and `;`: the three pieces in order are the Return's tokens.
-use Rattle.plain.proofs.Writing.{return-put}
+use Rattle.room.proofs.Laws.{next, more, one}
+use Rattle.plain.specs.Pieces.{returnOf}
 use borrow.Author.Needs.{needs}
 use Rattle.plain.proofs.returns.put_return.Statement.{statement}
 use Rattle.plain.proofs.returns.put_return.Tie as tie
@@ -26,7 +27,8 @@ same-length-2 : tie.Need-same-length-2
 same-length-2 c = search needs
 
 returns : tie.Need-returns
-returns c = λ E s. return-put _ _ _ _ E _ _ (c .before .before .before .before .before .before .before .before .before .before .before .before .before .before .before .before .before .before .before .put .ensures) (c .before .before .before .before .before .before .before .before .before .before .before .before .put-result .ensures E s) (c .before .before .before .before .put2 .ensures)
+unfolding returnOf
+returns c = λ E s. next _ _ _ _ (c .before .before .before .before .before .before .before .before .before .before .before .before .before .before .before .before .before .before .before .put .ensures) (more _ _ _ _ _ (c .before .before .before .before .before .before .before .before .before .before .before .before .put-result .ensures E s) (one _ _ _ (c .before .before .before .before .put2 .ensures)))
 
 pub put-return-spec : {M : Type 1} → statement M
 put-return-spec =

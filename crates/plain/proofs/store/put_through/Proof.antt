@@ -1,5 +1,7 @@
 -- The pointer's cast, a bracket, the address and a bracket: the four pieces in order are the place behind that address.
-use Rattle.plain.proofs.Writing.{through-put}
+use Rattle.definition.specs.Render.{through}
+use Rattle.room.proofs.Laws.{next, more, one}
+use Rattle.plain.specs.Pieces.{throughOf}
 use mathlib.Core.Path.{_∙_}
 use borrow.Author.Needs.{needs}
 use Rattle.plain.proofs.store.put_through.Statement.{statement}
@@ -30,7 +32,8 @@ same-length-2 : tie.Need-same-length-2
 same-length-2 c = c .before .before .before .before .put2 .kept .1 .0 ∙ c .before .before .before .before .before .before .before .before .before .before .before .before .put-expr .kept .1 .0 ∙ c .before .before .before .before .before .before .before .before .before .before .before .before .before .before .before .before .before .before .before .put .kept .1 .0 ∙ c .before .before .before .before .before .before .before .before .before .before .before .before .before .before .before .before .before .before .before .before .before .before .before .before .before .before .before .put-pointer .kept .1 .0
 
 returns : tie.Need-returns
-returns c = λ E s. through-put E _ _ _ _ _ _ _ _ (c .before .before .before .before .before .before .before .before .before .before .before .before .before .before .before .before .before .before .before .before .before .before .before .before .before .before .before .put-pointer .ensures) (c .before .before .before .before .before .before .before .before .before .before .before .before .before .before .before .before .before .before .before .put .ensures) (c .before .before .before .before .before .before .before .before .before .before .before .before .put-expr .ensures E s) (c .before .before .before .before .put2 .ensures)
+unfolding throughOf through
+returns c = λ E s. next _ _ _ _ (c .before .before .before .before .before .before .before .before .before .before .before .before .before .before .before .before .before .before .before .before .before .before .before .before .before .before .before .put-pointer .ensures) (next _ _ _ _ (c .before .before .before .before .before .before .before .before .before .before .before .before .before .before .before .before .before .before .before .put .ensures) (more _ _ _ _ _ (c .before .before .before .before .before .before .before .before .before .before .before .before .put-expr .ensures E s) (one _ _ _ (c .before .before .before .before .put2 .ensures))))
 
 pub put-through-spec : {M : Type 1} → statement M
 put-through-spec =

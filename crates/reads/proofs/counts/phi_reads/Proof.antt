@@ -1,6 +1,6 @@
 -- The inputs from k on are left to mark; the places of all of them name just the values that flow into phis.
 use Rattle.reads.proofs.Phis.{phi-done}
-use Rattle.reads.proofs.Visits.{place-is, inputs-low, each-turn, each-end}
+use Rattle.reads.proofs.Visits.{place-is, inputs-low, row-turn, row-end}
 use Rattle.reads.specs.Counts.{placed, visit, slots}
 use Rattle.definition.specs.Lists.{range}
 use Rattle.definition.specs.Edition.{inputs}
@@ -52,13 +52,13 @@ loop-less : tie.Need-loop-less Inv-loop μ-loop
 loop-less c = omega arith
 
 loop-again : tie.Need-loop-again Inv-loop μ-loop
-loop-again c = let inv = c .before .before .before .before .before .before .loop .inv in (inv .0 ∙ each-turn _ _ _ _ _ _ _ _ (c .before .before .before .before .before .loop-test .taken) (c .before .before .before .at-u32 .ensures) (place-is _ _ _ _ (c .before .before .put-u32 .ensures)), inv .1, inv .2, c .before .before .put-u32 .kept .0 ∙ inv .3)
+loop-again c = let inv = c .before .before .before .before .before .before .loop .inv in (inv .0 ∙ row-turn _ _ _ _ _ _ _ _ (c .before .before .before .before .before .loop-test .taken) (c .before .before .before .at-u32 .ensures) (place-is _ _ _ _ (c .before .before .put-u32 .ensures)), inv .1, inv .2, c .before .before .put-u32 .kept .0 ∙ inv .3)
 
 same-length : tie.Need-same-length Inv-loop μ-loop
 same-length c = c .before .loop .inv .3
 
 returns : tie.Need-returns Inv-loop μ-loop
-returns c = λ E. let inv = c .before .loop .inv in each-end _ _ _ _ _ _ _ (c .loop-test .left) (inv .0) ∙ phi-done _ _ _ _ _ (c .before .before .before .before .before .before .before .pre) (c .before .before .before .before .before .shared-slice-known .given) (inv .2) (inv .1) E
+returns c = λ E. let inv = c .before .loop .inv in row-end _ _ _ _ _ _ _ (c .loop-test .left) (inv .0) ∙ phi-done _ _ _ _ _ (c .before .before .before .before .before .before .before .pre) (c .before .before .before .before .before .shared-slice-known .given) (inv .2) (inv .1) E
 
 pub phi-reads-spec : {M : Type 1} → statement M
 phi-reads-spec =

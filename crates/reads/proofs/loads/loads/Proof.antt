@@ -1,10 +1,12 @@
 -- Expressions below i have their answers and zeros stand behind, which is the answer for a child that is not lower; a turn adds one.
-use Rattle.reads.proofs.Loading.{loaded, load-start, load-turn, load-end}
+use Rattle.reads.proofs.Loading.{loaded, load-turn, load-end}
+use Rattle.reads.proofs.Filling.{padded-none}
+use Rattle.reads.specs.Loads.{loadsBelow}
 use Rattle.definition.specs.Contents.{size}
 use Rattle.definition.specs.Edition.{expressions}
 use lib.ListN.{length, length-set}
 use Prim.Native.Nat.{_-_, _≤_}
-use mathlib.Core.Path.{_≡_, refl}
+use mathlib.Core.Path.{_≡_, refl, _∙_}
 use native.Mathlib.Omega.{arith}
 use borrow.Author.Needs.{needs}
 use Rattle.reads.proofs.loads.loads.Statement.{statement}
@@ -20,7 +22,8 @@ size-of-requires : tie.Need-size-of-requires Inv-loop μ-loop
 size-of-requires c κs = search needs
 
 loop-holds : tie.Need-loop-holds Inv-loop μ-loop
-loop-holds c = (load-start _ _ (c .before .before .before .pre .0), c .size-of .ensures, omega arith, refl)
+unfolding loaded loadsBelow
+loop-holds c = (c .before .before .before .pre .0 ∙ padded-none _, c .size-of .ensures, omega arith, refl)
 
 load-of-requires : tie.Need-load-of-requires Inv-loop μ-loop
 load-of-requires c κs = search needs

@@ -1,6 +1,8 @@
 -- The statements before i have put their nodes and where they start; the next start is where these nodes end, inside as all have room.
-use Rattle.reads.proofs.Orders.{usesBefore, startsBefore, before-start, before-turn, starts-start, starts-turn, start-here, start-fits, all-nodes, all-starts}
+use Rattle.reads.proofs.Orders.{usesBefore, startsBefore, before-start, before-turn, starts-turn, start-here, start-fits, all-nodes, all-starts}
+use Rattle.reads.proofs.Filling.{padded-none}
 use Rattle.reads.specs.Filling.{filling, putAll}
+use Rattle.definition.specs.Lists.{range}
 use Rattle.records.proofs.Items.{first-start, first-turn, items-few, items-fit, exprs-fit}
 use Rattle.definition.specs.Owners.{firstItem}
 use Rattle.definition.specs.Contents.{size}
@@ -23,7 +25,8 @@ size-of-requires : tie.Need-size-of-requires Inv-loop μ-loop
 size-of-requires c κs = search needs
 
 loop-holds : tie.Need-loop-holds Inv-loop μ-loop
-loop-holds c = (before-start _ _, starts-start _ _ (c .before .before .before .before .pre .cleared), first-start _, c .size-of .ensures, omega arith, refl, refl)
+unfolding startsBefore range
+loop-holds c = (before-start _ _, c .before .before .before .before .pre .cleared ∙ padded-none _, first-start _, c .size-of .ensures, omega arith, refl, refl)
 
 cast-starts : tie.Need-cast-starts Inv-loop μ-loop
 cast-starts c = let inv = c .before .loop .inv in omega (arith, c .before .before .before .before .before .before .pre .small, start-fits _ _ _ _ _ _ (c .before .before .before .before .before .before .pre .clear) (c .before .before .before .before .before .before .pre .room) (inv .0) (inv .3) (inv .4))

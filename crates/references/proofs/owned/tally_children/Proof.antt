@@ -1,16 +1,17 @@
 -- The tally of the children from the k-th on, in the table so far, is that of them all; k is below 2, as there are two at most.
-use Rattle.references.proofs.Tally.{mention-keeps, names-turn, names-end}
+use Rattle.definition.proofs.Runs.{each-turn, each-end}
+use Rattle.references.proofs.Tally.{mention-keeps, tally-none, tally-next}
 use native.Mathlib.Omega.{arith}
 use borrow.Author.Needs.{needs}
-use mathlib.Core.Path.{_≡_, refl, _∙_}
+use mathlib.Core.Path.{_≡_, refl, ap, _∙_}
 use Prim.Native.Nat.{_≤_, _-_}
 use mathlib.Core.List.{map}
 use lib.ListN.{length}
 use Rattle.definition.specs.Lists.{range}
 use Rattle.definition.specs.References.{children}
-use Rattle.references.specs.Tally.{tally}
+use Rattle.references.specs.Tally.{mentioned, tally}
 use Rattle.references.specs.Named.{childAt}
-use Rattle.references.proofs.Naming.{children-start, count-few}
+use Rattle.references.proofs.Naming.{names-start, children-are, count-few}
 use Rattle.references.proofs.owned.tally_children.Statement.{statement}
 use Rattle.references.proofs.owned.tally_children.Tie as tie
 
@@ -24,7 +25,7 @@ child-count-requires : tie.Need-child-count-requires Inv-loop μ-loop
 child-count-requires c κs = search needs
 
 loop-holds : tie.Need-loop-holds Inv-loop μ-loop
-loop-holds c = (children-start _ _ _ _ (c .child-count .ensures), omega (arith, c .child-count .ensures, count-few (c .before .before .before .args .f .now) (c .before .before .before .args .i)), refl)
+loop-holds c = (names-start (tally _) _ (children-are _ _) (c .child-count .ensures), omega (arith, c .child-count .ensures, count-few (c .before .before .before .args .f .now) (c .before .before .before .args .i)), refl)
 
 child-at-requires : tie.Need-child-at-requires Inv-loop μ-loop
 child-at-requires c κs = omega arith
@@ -40,13 +41,13 @@ loop-less c = omega arith
 
 loop-again : tie.Need-loop-again Inv-loop μ-loop
 loop-again c = let g = childAt (c .before .before .before .before .before .before .before .before .before .before .args .f .now) (c .before .before .before .before .before .before .before .before .before .before .args .i) in
-    (c .before .before .before .before .before .before .loop .inv .0 ∙ names-turn g _ _ _ _ _ (c .before .before .before .before .before .loop-test .taken) (c .before .before .before .child-at .ensures) (c .before .before .mention .ensures), omega arith, mention-keeps _ _ (c .before .before .before .before .before .before .before .before .before .before .args .table .now) _ (c .before .before .mention .ensures) (c .before .before .before .before .before .before .loop .inv .2))
+    (c .before .before .before .before .before .before .loop .inv .0 ∙ each-turn tally mentioned tally-none tally-next g _ _ _ _ (c .before .before .before .before .before .loop-test .taken) (c .before .before .mention .ensures ∙ ap (mentioned _) (c .before .before .before .child-at .ensures)), omega arith, mention-keeps _ _ (c .before .before .before .before .before .before .before .before .before .before .args .table .now) _ (c .before .before .mention .ensures) (c .before .before .before .before .before .before .loop .inv .2))
 
 same-length : tie.Need-same-length Inv-loop μ-loop
 same-length c = c .before .loop .inv .2
 
 returns : tie.Need-returns Inv-loop μ-loop
-returns c = names-end (childAt (c .before .before .before .before .before .args .f .now) (c .before .before .before .before .before .args .i)) _ _ _ _ (c .loop-test .left) (c .before .loop .inv .0)
+returns c = each-end tally mentioned tally-none tally-next (childAt (c .before .before .before .before .before .args .f .now) (c .before .before .before .before .before .args .i)) _ _ _ _ (c .loop-test .left) (c .before .loop .inv .0)
 
 pub tally-children-spec : {M : Type 1} → statement M
 tally-children-spec =

@@ -1,7 +1,8 @@
 -- Each test counts where those before hold: one that fails refuses, and being owned once decides last; its table was left as zeros.
-use Rattle.references.proofs.Sound.{refuse, last}
+use Rattle.references.proofs.Sound.{answer}
 use Rattle.records.proofs.Also.{also-stop, also-go}
 use Rattle.records.proofs.Items.{items-few}
+use mathlib.Core.Bool.{false}
 use borrow.Author.Needs.{needs}
 use Rattle.references.proofs.references.refused5.Statement.{statement}
 use Rattle.references.proofs.references.refused5.Tie as tie
@@ -17,7 +18,7 @@ same-length c = search needs
 
 returns : tie.Need-returns
 returns c = record {
-  says = refuse _ _ (also-stop _ (c .before .texts-sound .ensures) (c .if1 .taken));
+  says = answer _ _ false (also-stop _ (c .before .texts-sound .ensures) (c .if1 .taken));
   left = c .before .before .before .before .owned-once .ensures .left;
 }
 
@@ -29,7 +30,7 @@ same-length-2 c = search needs
 
 returns-2 : tie.Need-returns-2
 returns-2 c = record {
-  says = refuse _ _ (also-go (c .before .before .before .texts-sound .ensures) (c .before .before .if1 .left) (also-stop _ (c .before .all-children-lower .ensures) (c .if2 .taken)));
+  says = answer _ _ false (also-go (c .before .before .before .texts-sound .ensures) (c .before .before .if1 .left) (also-stop _ (c .before .all-children-lower .ensures) (c .if2 .taken)));
   left = c .before .before .before .before .before .before .owned-once .ensures .left;
 }
 
@@ -41,7 +42,7 @@ same-length-3 c = search needs
 
 returns-3 : tie.Need-returns-3
 returns-3 c = record {
-  says = refuse _ _ (also-go (c .before .before .before .before .before .texts-sound .ensures) (c .before .before .before .before .if1 .left) (also-go (c .before .before .before .all-children-lower .ensures) (c .before .before .if2 .left) (also-stop _ (c .before .all-roots-inside .ensures) (c .if3 .taken))));
+  says = answer _ _ false (also-go (c .before .before .before .before .before .texts-sound .ensures) (c .before .before .before .before .if1 .left) (also-go (c .before .before .before .all-children-lower .ensures) (c .before .before .if2 .left) (also-stop _ (c .before .all-roots-inside .ensures) (c .if3 .taken))));
   left = c .before .before .before .before .before .before .before .before .owned-once .ensures .left;
 }
 
@@ -50,7 +51,7 @@ same-length-4 c = search needs
 
 returns-4 : tie.Need-returns-4
 returns-4 c = record {
-  says = last _ _ _ (also-go (c .before .before .before .before .before .texts-sound .ensures) (c .before .before .before .before .if1 .left) (also-go (c .before .before .before .all-children-lower .ensures) (c .before .before .if2 .left) (also-go (c .before .all-roots-inside .ensures) (c .if3 .left) (c .before .before .before .before .before .before .before .before .owned-once .ensures .says))));
+  says = answer _ _ _ (also-go (c .before .before .before .before .before .texts-sound .ensures) (c .before .before .before .before .if1 .left) (also-go (c .before .before .before .all-children-lower .ensures) (c .before .before .if2 .left) (also-go (c .before .all-roots-inside .ensures) (c .if3 .left) (c .before .before .before .before .before .before .before .before .owned-once .ensures .says))));
   left = c .before .before .before .before .before .before .before .before .owned-once .ensures .left;
 }
 

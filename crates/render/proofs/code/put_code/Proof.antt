@@ -1,5 +1,6 @@
 -- Codes 0 and 1 say the register's own name; above them an even code is a parameter and an odd one a local, each of half the code.
-use Rattle.render.proofs.Coded.{code-own, code-a, code-v}
+use Rattle.render.proofs.Coded.{own-name, letter-a, letter-v}
+use Rattle.room.proofs.Laws.{piece-as}
 use borrow.Author.Needs.{needs}
 use Rattle.render.proofs.code.put_code.Statement.{statement}
 use Rattle.render.proofs.code.put_code.Tie as tie
@@ -14,7 +15,7 @@ same-length-2 : tie.Need-same-length-2
 same-length-2 c = search needs
 
 returns : tie.Need-returns
-returns c = code-own _ _ _ _ _ (c .before .before .before .before .before .before .before .if1 .taken) (c .before .before .before .before .put-reg .ensures)
+returns c = piece-as _ _ 1 _ _ (c .before .before .before .before .put-reg .ensures) (own-name _ _ _ (c .before .before .before .before .before .before .before .if1 .taken))
 
 cast-put-param : tie.Need-cast-put-param
 cast-put-param c = search needs
@@ -29,7 +30,7 @@ same-length-4 : tie.Need-same-length-4
 same-length-4 c = search needs
 
 returns-2 : tie.Need-returns-2
-returns-2 c = code-a _ _ _ _ _ (c .before .before .before .before .before .before .before .before .if1 .left) (c .before .before .before .before .before .before .before .if2 .taken) (c .before .before .before .before .put-param .ensures)
+returns-2 c = piece-as _ _ 1 _ _ (c .before .before .before .before .put-param .ensures) (letter-a _ _ _ (c .before .before .before .before .before .before .before .before .if1 .left) (c .before .before .before .before .before .before .before .if2 .taken))
 
 cast-put-local : tie.Need-cast-put-local
 cast-put-local c = search needs
@@ -44,7 +45,7 @@ same-length-6 : tie.Need-same-length-6
 same-length-6 c = search needs
 
 returns-3 : tie.Need-returns-3
-returns-3 c = code-v _ _ _ _ _ (c .before .before .before .before .before .before .before .before .if1 .left) (c .before .before .before .before .before .before .before .if2 .left) (c .before .before .before .before .put-local .ensures)
+returns-3 c = piece-as _ _ 1 _ _ (c .before .before .before .before .put-local .ensures) (letter-v _ _ _ (c .before .before .before .before .before .before .before .before .if1 .left) (c .before .before .before .before .before .before .before .if2 .left))
 
 pub put-code-spec : {M : Type 1} → statement M
 put-code-spec =

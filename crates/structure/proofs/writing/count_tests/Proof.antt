@@ -1,5 +1,5 @@
 -- The tests counted and those of the lines from i on are all of them; each turn counts one line, at most 1, and at the end none is left.
-use Rattle.structure.proofs.Counting.{testsFrom, tests-start, turned, tests-end, bit-le}
+use Rattle.structure.proofs.Counting.{testsFrom, tests-start, turned, tests-end, at-most}
 use Rattle.sorts.specs.Sorted.{linesIn}
 use Rattle.definition.specs.Listing.{tests}
 use Prim.Native.Nat.{_+_, _-_, _≤_}
@@ -31,7 +31,7 @@ one-if-requires : tie.Need-one-if-requires Inv-loop μ-loop
 one-if-requires c κs = search needs
 
 add-c : tie.Need-add-c Inv-loop μ-loop
-add-c c = omega (arith, c .before .before .before .before .before .loop .inv, bit-le (c .before .is-if .result) _ (c .one-if .ensures))
+add-c c = omega (arith, c .before .before .before .before .before .loop .inv, at-most (c .before .is-if .result) _ (c .one-if .ensures))
 
 add-i : tie.Need-add-i Inv-loop μ-loop
 add-i c = omega arith
@@ -40,7 +40,7 @@ loop-less : tie.Need-loop-less Inv-loop μ-loop
 loop-less c = omega arith
 
 loop-again : tie.Need-loop-again Inv-loop μ-loop
-loop-again c = let a = c .before .before .before .before .before .before .before .before .before .args in (turned (a .lines .now) (a .tokens .now) (a .text .now) (a .n) _ _ _ _ _ (c .before .is-if .result) _ (c .before .before .before .first-of .ensures) (c .before .before .last-of .ensures) (c .before .is-if .ensures) (c .one-if .ensures) (c .before .before .before .before .loop-test .taken) (c .before .before .before .before .before .loop .inv .0), omega arith, omega (arith, bit-le (c .before .is-if .result) _ (c .one-if .ensures), c .before .before .before .before .before .loop .inv))
+loop-again c = let a = c .before .before .before .before .before .before .before .before .before .args in (turned (a .lines .now) (a .tokens .now) (a .text .now) (a .n) _ _ _ _ _ (c .before .is-if .result) _ (c .before .before .before .first-of .ensures) (c .before .before .last-of .ensures) (c .before .is-if .ensures) (c .one-if .ensures) (c .before .before .before .before .loop-test .taken) (c .before .before .before .before .before .loop .inv .0), omega arith, omega (arith, at-most (c .before .is-if .result) _ (c .one-if .ensures), c .before .before .before .before .before .loop .inv))
 
 returns : tie.Need-returns Inv-loop μ-loop
 returns c = tests-end _ _ _ _ _ _ _ (c .before .loop .inv .0) (omega arith)

@@ -4,20 +4,20 @@ use borrow.Author.Needs.{needs}
 use Rattle.sums.proofs.sums.signed.Statement.{statement}
 use Rattle.sums.proofs.sums.signed.Tie as tie
 
-add-requires : tie.Need-add-requires
-add-requires c κs = search needs
+shifted-requires : tie.Need-shifted-requires
+shifted-requires c κs = search needs
 
 returns : tie.Need-returns
-returns c = by-plus _ _ _ _ (c .before .if1 .taken) (c .add .ensures)
+returns c = by-plus _ _ _ _ (c .before .if1 .taken) (c .shifted .ensures)
 
-sub-requires : tie.Need-sub-requires
-sub-requires c κs = search needs
+shifted-requires-2 : tie.Need-shifted-requires-2
+shifted-requires-2 c κs = search needs
 
 returns-2 : tie.Need-returns-2
-returns-2 c = by-minus _ _ _ _ (c .before .if2 .taken) (c .sub .ensures)
+returns-2 c = by-minus _ _ _ _ (c .before .if2 .taken) (c .shifted2 .ensures)
 
 returns-3 : tie.Need-returns-3
 returns-3 c = by-none _ _ _ (c .before .if1 .left) (c .if2 .left)
 
 pub signed-spec : {M : Type 1} → statement M
-signed-spec = tie.close (tie.spec add-requires returns sub-requires returns-2 returns-3)
+signed-spec = tie.close (tie.spec shifted-requires returns shifted-requires-2 returns-2 returns-3)

@@ -10,7 +10,8 @@ use Rattle.definition.specs.Contents.{size}
 use Rattle.definition.specs.Owners.{firstInput}
 use Rattle.values.specs.Keys.{inputKeys}
 use Rattle.values.specs.Laid.{laid}
-use Rattle.values.proofs.Laying.{runs-start, runs-turn, runs-end, input-start, input-turn, inputs-fit}
+use Rattle.values.proofs.Laying.{runs-start, runs-turn, runs-end, inputs-fit}
+use Rattle.records.proofs.Below.{sum-start, sum-turn}
 use Rattle.values.proofs.Placed.{inputs-length}
 use Rattle.values.proofs.keys.lay_inputs.Statement.{statement}
 use Rattle.values.proofs.keys.lay_inputs.Tie as tie
@@ -25,7 +26,8 @@ size-of-requires : tie.Need-size-of-requires Inv-loop μ-loop
 size-of-requires c κs = search needs
 
 loop-holds : tie.Need-loop-holds Inv-loop μ-loop
-loop-holds c = (runs-start _ _ _ _ _ (c .size-of .ensures), input-start _, c .size-of .ensures, refl)
+unfolding firstInput
+loop-holds c = (runs-start _ _ _ _ _ (c .size-of .ensures), sum-start _, c .size-of .ensures, refl)
 
 cast-lay-phi : tie.Need-cast-lay-phi Inv-loop μ-loop
 cast-lay-phi c = let inv = c .before .before .loop .inv in omega (arith, inputs-fit _ _ (c .before .before .before .before .before .before .pre .1 .0) (inv .2) (c .before .loop-test .taken) (inv .1))
@@ -51,8 +53,9 @@ loop-less : tie.Need-loop-less Inv-loop μ-loop
 loop-less c = omega arith
 
 loop-again : tie.Need-loop-again Inv-loop μ-loop
+unfolding firstInput
 loop-again c = let inv = c .before .before .before .before .before .before .loop .inv in
-    (inv .0 ∙ runs-turn _ _ _ _ _ _ _ _ _ (c .before .before .before .before .before .loop-test .taken) (c .before .before .before .lay-phi .ensures) (c .phi-inputs .ensures ∙ sym (inputs-length _ _)) refl, input-turn _ _ (inv .1) (c .phi-inputs .ensures), inv .2, c .before .before .before .lay-phi .kept .0 ∙ inv .3)
+    (inv .0 ∙ runs-turn _ _ _ _ _ _ _ _ _ (c .before .before .before .before .before .loop-test .taken) (c .before .before .before .lay-phi .ensures) (c .phi-inputs .ensures ∙ sym (inputs-length _ _)) refl, sum-turn _ (inv .1) (c .phi-inputs .ensures), inv .2, c .before .before .before .lay-phi .kept .0 ∙ inv .3)
 
 same-length : tie.Need-same-length Inv-loop μ-loop
 same-length c = c .before .loop .inv .3

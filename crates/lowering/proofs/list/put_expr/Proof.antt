@@ -1,8 +1,9 @@
 -- Behind the last statement every value written in place is open, so what rendering writes is the expression as lowering has it.
-use Rattle.plain.proofs.Writing.{expr-put}
+use Rattle.room.proofs.Laws.{pieces-are}
+use Rattle.lowering.proofs.Gen.{rendered-is}
 use borrow.Author.Needs.{needs}
-use Rattle.plain.proofs.parts.put_expr.Statement.{statement}
-use Rattle.plain.proofs.parts.put_expr.Tie as tie
+use Rattle.lowering.proofs.list.put_expr.Statement.{statement}
+use Rattle.lowering.proofs.list.put_expr.Tie as tie
 
 size-of-requires : tie.Need-size-of-requires
 size-of-requires c κs = search needs
@@ -17,7 +18,7 @@ same-length-2 : tie.Need-same-length-2
 same-length-2 c = search needs
 
 returns : tie.Need-returns
-returns c = λ E s. expr-put _ _ E _ _ _ (c .before .before .before .before .before .before .before .before .before .before .before .before .before .before .before .pre .ground .counts) (c .before .before .before .before .before .before .before .size-of .ensures) (c .before .before .before .before .expr .ensures E s)
+returns c = λ E s. pieces-are _ _ _ _ (c .before .before .before .before .expr .ensures E s) (rendered-is E _ (c .before .before .before .before .before .before .before .before .before .before .before .before .before .before .before .pre .ground .counts) _ _ (c .before .before .before .before .before .before .before .size-of .ensures))
 
 pub put-expr-spec : {M : Type 1} → statement M
 put-expr-spec =
