@@ -8,14 +8,14 @@ use Rattle.definition.specs.Edition.{Edition}
 use Rattle.definition.specs.Read.{read}
 use Rattle.definition.specs.Classes.{find, classes}
 use Rattle.definition.proofs.ListLaws.{own-zeros}
-use Rattle.values.specs.Keys.{keyOf, keyed}
+use Rattle.places.specs.Keys.{keyOf, keyed}
 use Rattle.values.specs.Tables.{numberOf, numbered, table}
 use Rattle.values.specs.Chains.{Emptied}
 use Rattle.values.proofs.Tables.{numbered-from}
 use Rattle.classes.specs.Given.{Given}
-use Rattle.reads.specs.Orders.{Ordered, Ready}
+use Rattle.uses.specs.Orders.{Ordered, Ready}
 use Rattle.reads.specs.Counts.{lastReader, LiveReads, PhiReads, Numbers, Runs}
-use Rattle.reads.specs.Loads.{Loads}
+use Rattle.uses.specs.Loads.{Loads}
 use Rattle.reads.proofs.Visits.{ordered-runs}
 use Rattle.inline.specs.Placing.{placeOf, Told}
 use Rattle.inline.proofs.Forgetting.{in-place}

@@ -16,8 +16,8 @@ use Rattle.definition.specs.Meaning.{registers, starts, definedOnce, refused6}
 use Rattle.definition.specs.Listing.{checked}
 use Rattle.definition.proofs.Bools.{both-false, is-true, passed}
 use Rattle.records.proofs.Items.{shape-owned}
-use Rattle.values.specs.Keys.{placesOf}
-use Rattle.reads.proofs.Forest.{order-short}
+use Rattle.places.specs.Keys.{placesOf}
+use Rattle.uses.proofs.Forest.{order-short}
 use Rattle.analyses.specs.Sound.{Sound}
 
 -- a section that is not too long, and those behind it

@@ -8,7 +8,7 @@ use Rattle.definition.specs.Edition.{edition1}
 use Rattle.definition.specs.Read.{allTrees}
 use Rattle.definition.specs.Inline.{hasLoad}
 use Rattle.definition.specs.Listing.{padded}
-use Rattle.reads.specs.Uses.{useOrder, useStarts}
+use Rattle.uses.specs.Uses.{useOrder, useStarts}
 use Rattle.analyses.specs.Tables.{Valued, ReadAs, Placed, Named}
 
 -- lists that the same g gives of their lengths

@@ -9,8 +9,8 @@ use Rattle.definition.specs.Lists.{distinct}
 use Rattle.definition.specs.Contents.{size}
 use Rattle.definition.specs.Shape.{owned}
 use Rattle.definition.specs.Meaning.{registers, starts, definedOnce}
-use Rattle.values.specs.Keys.{placesOf}
-use Rattle.reads.specs.Uses.{useOrder}
+use Rattle.places.specs.Keys.{placesOf}
+use Rattle.uses.specs.Uses.{useOrder}
 
 -- owners' counts come out, registers are registers, starts differ, values are defined once, no node is read twice, and nothing is too many
 pub record Sound (f : List ℕ) : Type 0 where

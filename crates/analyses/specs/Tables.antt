@@ -8,12 +8,12 @@ use Rattle.definition.specs.Edition.{Edition, statements, expressions}
 use Rattle.definition.specs.Contents.{size}
 use Rattle.definition.specs.Shape.{owned}
 use Rattle.definition.specs.Meaning.{registers}
-use Rattle.values.specs.Keys.{placesOf, keyed}
+use Rattle.places.specs.Keys.{placesOf, keyed}
 use Rattle.values.specs.Tables.{numbered, table}
-use Rattle.reads.specs.Uses.{useOrder}
-use Rattle.reads.specs.Orders.{Ordered}
+use Rattle.uses.specs.Uses.{useOrder}
+use Rattle.uses.specs.Orders.{Ordered}
 use Rattle.reads.specs.Counts.{lastReader, LiveReads, PhiReads}
-use Rattle.reads.specs.Loads.{Loads}
+use Rattle.uses.specs.Loads.{Loads}
 use Rattle.inline.specs.Placing.{placeOf}
 use Rattle.names.specs.Given.{EntryRead, rootTable, nameTable}
 

@@ -1,8 +1,8 @@
 // Runs the analyses in order over lent tables: the numbers of values, who reads them, and the variables with their names.
 use names::entry::entry_reads;
 use naming::naming;
-use reads::counts::live_reads;
-use reads::counts::phi_reads;
+use reads::live_reads;
+use reads::phi_reads;
 ghost use lib.ListN.{length};
 ghost use Rattle.analyses.specs.Tables.{Unnumbered, Valued, Before, ReadAs, Shared, Unplaced, Placed, Nameable, Nameless, Named};
 
@@ -35,11 +35,11 @@ pub fn read_tables(
     requires { ⌜ Before (now f) (now numbers) (now order) (now starts) (now loads) (now live) (now phi) (now readers) ⌝ }
     ensures { λ _. ⌜ ReadAs (now (f .entry)) (length (now (numbers .entry))) (now (order .exit)) (now (starts .exit)) (now (loads .exit)) (now (live .exit)) (now (phi .exit)) (now (readers .exit)) ⌝ }
 {
-    reads::order::order(order, starts, f);
-    reads::loads::loads(loads, f);
+    uses::order::order(order, starts, f);
+    uses::loads::loads(loads, f);
     live_reads(live, f, numbers, order, starts);
     phi_reads(phi, f, numbers);
-    reads::counts::readers(readers, f, numbers, order, starts);
+    reads::readers(readers, f, numbers, order, starts);
 }
 
 // The classes of values, and what is written in place.
@@ -58,7 +58,7 @@ pub fn variables(
     requires { ⌜ Unplaced (length (now numbers)) (now roots) (now places) ⌝ }
     ensures { λ _. ⌜ Placed (now (f .entry)) (length (now (numbers .entry))) (now (roots .exit)) (now (places .exit)) ⌝ }
 {
-    classes::classes::classes(roots, f, keys, numbers);
+    classes::classes(roots, f, keys, numbers);
     inline::inline(places, f, numbers, live, phi, readers, loads);
 }
 

@@ -11,7 +11,7 @@ use mir.Val.{Fits}
 use borrow.Author.Tests.{ne-eqb}
 use Rattle.definition.specs.Edition.{Edition, statements}
 use Rattle.definition.specs.Texts.{txt}
-use Rattle.definition.specs.Lists.{count}
+use Rattle.definition.specs.Lists.{count, at}
 use Rattle.definition.specs.Contents.{size}
 use Rattle.definition.specs.Owners.{stmtKind, stmtField}
 use Rattle.definition.specs.Values.{Value, value, eqv, within}
@@ -26,9 +26,9 @@ use Rattle.definition.specs.Render.{variable}
 use Rattle.definition.specs.Lower.{isRead, resultTokens}
 use Rattle.definition.specs.Blocks.{lowering}
 use Rattle.words.proofs.Laws.{word-small}
-use Rattle.values.specs.declared.places.Places.{Places}
-use Rattle.values.specs.Keys.{keyOf, stmtKey, placesOf, keyed}
-use Rattle.values.specs.Tables.{at, table}
+use Rattle.places.specs.declared.Places.{Places}
+use Rattle.places.specs.Keys.{keyOf, stmtKey, placesOf, keyed}
+use Rattle.values.specs.Tables.{table}
 use Rattle.values.proofs.Tables.{table-read}
 use Rattle.values.proofs.Placed.{at-stmt, keyed-length, stmt-here}
 use Rattle.names.specs.Codes.{nameText, nameCode}

@@ -9,14 +9,10 @@ use Rattle.definition.specs.Edition.{Edition, statements}
 use Rattle.definition.specs.Contents.{size}
 use Rattle.definition.specs.Owners.{stmtKind, firstItem}
 use Rattle.definition.specs.Shape.{owned}
-use Rattle.definition.specs.Read.{read}
-use Rattle.definition.specs.Classes.{classes}
-use Rattle.definition.specs.Inline.{readsOf, inline}
-use Rattle.values.specs.declared.places.Places.{Places}
-use Rattle.values.specs.Tables.{table}
+use Rattle.places.specs.declared.Places.{Places}
 use Rattle.sums.specs.Ground.{Ground}
 use Rattle.reads.specs.Counts.{LiveReads, PhiReads}
-use Rattle.names.specs.Codes.{nameCode}
+use Rattle.names.specs.Given.{nameTable}
 
 -- statement i is a call whose list items begin at `item`
 pub record CallAt (f : List ℕ) (i item : ℕ) : Type 0 where
@@ -28,6 +24,6 @@ pub record CallAt (f : List ℕ) (i item : ℕ) : Type 0 where
 -- the numbers of values, the codes of their names, how often live statements read them, whether a phi does
 pub record Results (f : List ℕ) (P : Places) (numbers names live phi : List ℕ) : Type 0 where
   pub ground : Ground f numbers P
-  pub named : (E : Edition) → names ≡ table f (length numbers) (nameCode (read E f) (classes (read E f)) (inline (read E f) (readsOf (read E f))))
+  pub named : (E : Edition) → names ≡ nameTable E f (length numbers)
   pub times : LiveReads f (length numbers) live
   pub flows : PhiReads f (length numbers) phi

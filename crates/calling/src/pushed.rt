@@ -1,11 +1,11 @@
 // The values pushed for a call, with `, ` between them.
 use lowering::list::put_arg;
+use places::Places;
 use records::owners::STORE;
 use records::owners::is_pushed;
 use records::owners::stmt_field;
 use records::owners::stmt_kind;
 use room::out::Out;
-use values::places::Places;
 ghost use mathlib.Core.Path.{_≡_};
 ghost use mathlib.Core.Bool.{_||_};
 ghost use Rattle.definition.specs.Edition.{Edition};

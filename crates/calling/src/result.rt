@@ -2,12 +2,12 @@
 use lowering::kinds::PUNCT;
 use meaning::meaning::bits_of;
 use pieces::put::put;
-use reads::counts::is_read;
+use places::Places;
+use reads::is_read;
 use records::owners::stmt_field;
 use render::code::put_code;
 use room::out::Out;
-use values::places::Places;
-use values::read::at_u32;
+use slices::at_u32;
 ghost use mathlib.Core.Path.{_≡_};
 ghost use Prim.Native.Nat.{_<_};
 ghost use Rattle.definition.specs.Codes.{kCall};

@@ -23,8 +23,8 @@ use Rattle.text.specs.declared.names.Found.{Found}
 use Rattle.text.specs.declared.names.Found.the-variants.{At, Nothing}
 use Rattle.text.specs.Supplied.{found, nameIndex, nameText, textOf}
 use Rattle.text.proofs.Lookups.{name-is, name-part, text-is, found-is}
-use Rattle.marks.specs.Labels.{blockOf}
-use Rattle.marks.proofs.Finding.{block-none}
+use Rattle.labels.specs.Labels.{blockOf}
+use Rattle.labels.proofs.Finding.{block-none}
 use Rattle.room.specs.Room.{Room, emit}
 use Rattle.room.proofs.Laws.{piece-as}
 use Rattle.calls.specs.declared.hex.Hex.{Hex}

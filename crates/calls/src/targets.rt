@@ -1,6 +1,6 @@
 // Where a jump goes: the label of a block, or else a supplied name that is no label's, or else the raw address.
 use crate::parts::begins_part;
-use marks::labels::block_of;
+use labels::block_of;
 use pieces::from_file::put_name;
 use pieces::piece::Made;
 use pieces::put::put_made;

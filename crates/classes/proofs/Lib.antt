@@ -1,5 +1,3 @@
-pub mod Forest
-pub mod Labels
 pub mod Members
 pub mod Tied
 pub mod Phis

@@ -11,15 +11,15 @@ use lib.Dec.{eqb, ltb}
 use borrow.Author.Tests.{lt-ltb, le-ltb, eq-eqb, ne-eqb, ltb-false}
 use Rattle.definition.specs.Values.{Value, value, eqv, before, lesser, greater}
 use Rattle.definition.specs.Classes.{Member, Pair, find, union}
+use Rattle.definition.specs.Lists.{at}
 use Rattle.definition.proofs.Bools.{by-test}
-use Rattle.definition.proofs.ListLaws.{Each}
+use Rattle.definition.proofs.ListLaws.{Each, at-out}
 use Rattle.definition.proofs.Equal.{eqv-true}
-use Rattle.values.specs.Keys.{keyOf, valueOf}
-use Rattle.values.specs.Tables.{at, firstOf, numbersOf}
+use Rattle.places.specs.Keys.{keyOf, valueOf}
+use Rattle.values.specs.Tables.{firstOf, numbersOf}
 use Rattle.values.proofs.Tables.{key-not-0, decode, eqv-keys, number-first, number-key}
-use Rattle.values.proofs.Reading.{at-out}
-use Rattle.classes.specs.Roots.{under, renamed, merged, rootIn, join}
-use Rattle.classes.proofs.Labels.{at-renamed}
+use Rattle.unions.specs.Roots.{under, renamed, merged, rootIn, join}
+use Rattle.unions.proofs.Labels.{at-renamed}
 use Rattle.classes.proofs.Members.{Here, has, rootLeft, rootRight, find-union}
 
 -- the order of values is the order of keys

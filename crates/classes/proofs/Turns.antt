@@ -1,47 +1,32 @@
 -- What each return and each turn of a loop comes to, over plain lists and numbers: x, y, t and so on are what the code read, and the equations say what
 -- they are.
-use mathlib.Core.Path.{_≡_, refl, sym, ap, _∙_}
+use mathlib.Core.Path.{_≡_, refl, ap, _∙_}
 use mathlib.Core.Bool.{Bool, true, false}
 use mathlib.Core.List.{List}
 use Prim.Native.Nat.{ℕ, suc, _+_, _-_, _≤_, _<_}
 use native.Mathlib.Omega.{arith}
-use lib.Dec.{eqb, ltb}
+use lib.Dec.{eqb}
 use lib.ListN.{length, set}
-use borrow.Author.Tests.{eq-eqb, ne-eqb, ltb-true}
-use Rattle.definition.specs.Lists.{range}
+use borrow.Author.Tests.{eq-eqb, ne-eqb}
+use Rattle.definition.specs.Lists.{at}
 use Rattle.definition.specs.Edition.{phis}
 use Rattle.definition.specs.Contents.{size, phiWord}
 use Rattle.definition.specs.Owners.{phiInputs, firstInput}
 use Rattle.definition.specs.Values.{RSP}
-use Rattle.records.proofs.Editions.{length-range}
 use Rattle.definition.proofs.Runs.{loop-start}
 use Rattle.records.proofs.Below.{sum-start, sum-turn, sum-part}
 use Rattle.records.proofs.Parts.{owned-parts}
 use Rattle.ssa.specs.Block.{phiRecord}
 use Rattle.ssa.specs.declared.block.Phi.{Phi}
-use Rattle.values.specs.Keys.{placesOf}
-use Rattle.values.specs.Tables.{at}
-use Rattle.values.specs.declared.places.Places.{Places}
-use Rattle.values.proofs.Tables.{at-set-other, same-at, numbered-length}
+use Rattle.places.specs.Keys.{placesOf}
+use Rattle.places.specs.declared.Places.{Places}
+use Rattle.values.proofs.Tables.{at-set-other, numbered-length}
 use Rattle.values.proofs.Placed.{keyed-length, phi-here}
 use Rattle.values.proofs.Chaining.{filled-on}
 use Rattle.classes.specs.Given.{Given, Standing}
-use Rattle.classes.specs.Roots.{under, join, joinRun, joinPhi, joinPhis, kept, spared}
-use Rattle.classes.proofs.Labels.{at-range, fill-end}
-
--- ---- the order of two numbers
-module _ (ks : List ℕ) (i j : ℕ) where
-  pub less-is : (x y : ℕ) → x ≡ at ks i → y ≡ at ks j → ltb x y ≡ under ks i j
-  unfolding under
-  less-is x y p q = rw (p, q)
-
-  pub less-falls : under ks i j ≡ true → at ks i < at ks j
-  unfolding under
-  less-falls h = ltb-true (at ks i) (at ks j) h
-
--- ---- each number its own root
-pub own-end : (l : List ℕ) (n k : ℕ) → length l ≡ n → n ≤ k → ((j : ℕ) → j < k → at l j ≡ j) → l ≡ range 0 n
-own-end l n k e h f = same-at l (range 0 n) (e ∙ sym (length-range 0 n)) (λ i m. f i (omega arith) ∙ sym (at-range n i (omega arith)))
+use Rattle.unions.specs.Roots.{join}
+use Rattle.classes.specs.Joined.{joinRun, joinPhi, joinPhis, kept, spared}
+use Rattle.unions.proofs.Labels.{fill-end}
 
 -- ---- what a place keeps
 module _ (ks ns : List ℕ) (x i k : ℕ) (key : k ≡ at ks i) where

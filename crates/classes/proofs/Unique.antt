@@ -5,7 +5,7 @@ use Prim.Native.Nat.{ℕ}
 use Rattle.definition.specs.Edition.{Edition, edition1}
 use Rattle.definition.specs.Read.{read}
 use Rattle.definition.specs.Classes.{find, classes}
-use Rattle.values.specs.Keys.{keyOf, keyed}
+use Rattle.places.specs.Keys.{keyOf, keyed}
 use Rattle.values.specs.Tables.{numberOf, table}
 
 -- the contract, of a table r of n places

@@ -12,7 +12,7 @@ use mir.Val.{Fits}
 use borrow.Author.Tests.{eq-eqb, ne-eqb, eqb-true}
 use Rattle.words.proofs.Laws.{word-small}
 use Rattle.definition.specs.Edition.{Edition, phis}
-use Rattle.definition.specs.Lists.{gather, range}
+use Rattle.definition.specs.Lists.{gather, range, at}
 use Rattle.definition.specs.Contents.{size, phiWord, inputAt, place}
 use Rattle.definition.specs.Owners.{phiInputs, firstInput}
 use Rattle.definition.specs.Values.{Value, value, RSP}
@@ -21,13 +21,14 @@ use Rattle.definition.specs.Classes.{Member, Pair, find, union, unions, alone, 
 use Rattle.definition.proofs.Bools.{by-test}
 use Rattle.definition.proofs.ListLaws.{each-head}
 use Rattle.records.proofs.Editions.{length-range}
-use Rattle.values.specs.Keys.{keyOf, valueOf, phiKey, inputKey, placesOf, keyed}
-use Rattle.values.specs.Tables.{at, firstOf, numberOf, numbersOf, numbered, entry, tabled, table}
+use Rattle.places.specs.Keys.{keyOf, valueOf, phiKey, inputKey, placesOf, keyed}
+use Rattle.values.specs.Tables.{firstOf, numberOf, numbersOf, numbered, entry, tabled, table}
 use Rattle.values.proofs.Tables.{encode, number-first}
 use Rattle.values.proofs.Placed.{at-phi, at-input, phi-here, input-here}
 use Rattle.classes.specs.Given.{Given}
-use Rattle.classes.specs.Roots.{rootsOf, join, joinRun, joinPhi, joinPhis, kept, spared}
-use Rattle.classes.proofs.Labels.{apart-roots, at-range, join-length, map-same}
+use Rattle.unions.specs.Roots.{rootsOf, join}
+use Rattle.classes.specs.Joined.{joinRun, joinPhi, joinPhis, kept, spared}
+use Rattle.unions.proofs.Labels.{apart-roots, at-range, join-length, map-same}
 use Rattle.classes.proofs.Members.{Ready, find-alone, alone-ready, union-ready, unions-append}
 use Rattle.classes.proofs.Tied.{Number, Names, Tied, valueAt, inside, names, tied-join}
 use Rattle.classes.proofs.Turns.{keys-long}

@@ -6,7 +6,7 @@ use mathlib.Core.List.{List}
 use Prim.Native.Nat.{ℕ, _+_, _≤_, _<_}
 use Rattle.definition.specs.Owners.{firstInput}
 use Rattle.definition.specs.Shape.{owned}
-use Rattle.values.specs.Keys.{placesOf, keyed}
+use Rattle.places.specs.Keys.{placesOf, keyed}
 use Rattle.values.specs.Tables.{numbered}
 
 -- the file, its keys and numbers, and the length of every table

@@ -1,2 +1,2 @@
 pub mod Given
-pub mod Roots
+pub mod Joined

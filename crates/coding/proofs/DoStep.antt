@@ -11,7 +11,7 @@ use borrow.Author.Tests.{eqb-true, eqb-false}
 use lib.Dec.{eqb}
 use lib.ListN.{length, getD, take, drop}
 use lib.Seq.{take-at, getD-at, drop-append-add}
-use Rattle.definition.specs.Lists.{has}
+use Rattle.definition.specs.Lists.{has, at}
 use Rattle.definition.specs.Tokens.{Line}
 use Rattle.definition.specs.Sorts.{Sort, sort, sortOf}
 use Rattle.definition.specs.Sorts.Sort.{label, condTo, whileClose}
@@ -21,7 +21,7 @@ use Rattle.definition.proofs.SortLaws.{label-sort}
 use Rattle.definition.proofs.Fits.{Fits, Fit, fit-back}
 use Rattle.definition.proofs.Regions.{Backed, backed}
 use Rattle.outline.specs.Rows.{kindOf, indentOf, nameOf, lineOf, linesOf}
-use Rattle.outline.specs.Tests.{at, isLabel}
+use Rattle.outline.specs.Tests.{isLabel}
 use Rattle.outline.specs.Spans.{outside, reachedIn}
 use Rattle.outline.proofs.Moves.{indent-small}
 use Rattle.passes.specs.Regions.{backFrom, doGoalAt, doGoal, formedDo, headed, whiled}

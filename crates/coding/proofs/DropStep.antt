@@ -6,14 +6,13 @@ use mathlib.Core.List.{List, _∷_, _++_, map, append-nil}
 use Prim.Native.Nat.{ℕ, _-_}
 use native.Mathlib.Omega.{arith}
 use lib.ListN.{take}
-use Rattle.definition.specs.Lists.{only, has}
+use Rattle.definition.specs.Lists.{only, has, at}
 use Rattle.definition.specs.Tokens.{Line}
 use Rattle.definition.specs.Sorts.{sort}
 use Rattle.definition.specs.Passes.{labelName, aimed, kept, dropUnusedLabels}
 use Rattle.definition.proofs.SortLaws.{label-sort}
 use Rattle.definition.proofs.ListLaws.{Each, _▸_, end}
 use Rattle.outline.specs.Rows.{nameOf, lineOf, linesOf}
-use Rattle.outline.specs.Tests.{at}
 use Rattle.outline.specs.Spans.{outside, aimedOut}
 use Rattle.passes.specs.Dropping.{keptRow, keptRows}
 use Rattle.coding.proofs.Coding.{CodedRow, label-row}

@@ -7,7 +7,7 @@ use Prim.Native.Nat.{ℕ, zero, suc, _+_, _-_, _≤_, _<_}
 use native.Mathlib.Omega.{arith}
 use lib.ListN.{length, take, drop, replicate, length-replicate}
 use lib.Seq.{take-add, drop-at, take-take, length-take-le}
-use Rattle.definition.specs.Lists.{any}
+use Rattle.definition.specs.Lists.{any, at}
 use Rattle.definition.specs.Tokens.{Line}
 use Rattle.definition.specs.Sorts.{sort}
 use Rattle.definition.specs.Sorts.Sort.{label}
@@ -15,7 +15,7 @@ use Rattle.definition.specs.Passes.{Formed, aimed, reached, deep, raise}
 use Rattle.definition.proofs.Bools.{both-false}
 use Rattle.definition.proofs.ListLaws.{Each, _▸_, end, each-append, each-left, each-right, each-head, each-tail}
 use Rattle.outline.specs.Rows.{nameOf, lineOf, linesOf}
-use Rattle.outline.specs.Tests.{at, tooDeep}
+use Rattle.outline.specs.Tests.{tooDeep}
 use Rattle.outline.specs.Spans.{noteFrom, noteRow, spansOf, outside, aimedOut, reachedIn}
 use Rattle.outline.specs.Forming.{raised, deepIn}
 use Rattle.passes.specs.Sweeps.{Tried, tried}

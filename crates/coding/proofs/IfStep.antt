@@ -10,7 +10,7 @@ use lib.Dec.{eqb}
 use lib.ListN.{length, take, drop}
 use lib.Seq.{take-at, drop-at, append-snoc, take-suc}
 use native.Mathlib.Numerals.{add-one}
-use Rattle.definition.specs.Lists.{has}
+use Rattle.definition.specs.Lists.{has, at}
 use Rattle.definition.specs.Tokens.{Line}
 use Rattle.definition.specs.Sorts.{Sort, sort, sortOf}
 use Rattle.definition.specs.Sorts.Sort.{condTo, ifOpen}
@@ -20,7 +20,7 @@ use Rattle.definition.proofs.Bools.{by-test}
 use Rattle.definition.proofs.SortLaws.{cond-sort}
 use Rattle.definition.proofs.Fits.{Fits, fit-at}
 use Rattle.outline.specs.Rows.{kindOf, indentOf, nameOf, lineOf, linesOf}
-use Rattle.outline.specs.Tests.{at, isCond}
+use Rattle.outline.specs.Tests.{isCond}
 use Rattle.outline.specs.Spans.{reachedIn}
 use Rattle.passes.specs.Regions.{labelFrom, ifGoalAt, ifGoal, formedIf, opened, closeRow}
 use Rattle.passes.specs.Sweeps.{ifTried}

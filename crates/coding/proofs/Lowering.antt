@@ -9,10 +9,10 @@ use Rattle.definition.specs.Tokens.{Line}
 use Rattle.definition.specs.Sorts.{Sort, sort}
 use Rattle.definition.specs.Sorts.Sort.{label, condTo, jumpTo, plain, ifOpen, close, doOpen, whileClose}
 use Rattle.definition.specs.Passes.{conds, closer}
+use Rattle.definition.specs.Lists.{at}
 use Rattle.definition.proofs.ListLaws.{_▸_, end, each-head, each-tail}
 use Rattle.definition.proofs.Plain.{FlatAs, Flat, Good, Plain}
 use Rattle.outline.specs.Rows.{kindOf, indentOf, nameOf, originOf, lineAt, lineOf, linesOf}
-use Rattle.outline.specs.Tests.{at}
 use Rattle.coding.proofs.Coding.{Codes, CodedRow, Coded, line-same}
 use Rattle.coding.proofs.Scanning.{part, part-cons}
 use Rattle.coding.proofs.Structuring.{Structured, structured}

@@ -11,7 +11,7 @@ use borrow.Author.Tests.{ne-eqb, lt-ltb, le-ltb, le-leb, lt-leb, eqb-true, eqb-f
 use lib.Dec.{eqb, ltb, leb}
 use lib.ListN.{length, take, drop, set, replicate, length-set, length-replicate, getD-replicate}
 use lib.Seq.{take-nil, drop-nil, drop-cons, getD-set-same, getD-set-other, length-take-le}
-use Rattle.definition.specs.Lists.{any, has}
+use Rattle.definition.specs.Lists.{any, has, at}
 use Rattle.definition.specs.Tokens.{Line}
 use Rattle.definition.specs.Sorts.{Sort, sort}
 use Rattle.definition.specs.Sorts.Sort.{label}
@@ -20,7 +20,7 @@ use Rattle.definition.proofs.Bools.{by-test}
 use Rattle.definition.proofs.SortLaws.{label-sort}
 use Rattle.definition.proofs.ListLaws.{Each, _▸_, end}
 use Rattle.outline.specs.Rows.{nameOf, lineOf}
-use Rattle.outline.specs.Tests.{at, isGoto}
+use Rattle.outline.specs.Tests.{isGoto}
 use Rattle.outline.specs.Spans.{lowOf, highOf, widened, noteRow, noteFrom, spansOf, outside, aimedOut}
 use Rattle.coding.proofs.Coding.{goesTo, Codes, CodedRow, Coded, label-row, aims-row}
 

@@ -12,12 +12,12 @@ use lib.Seq.{take-at, drop-at, drop-drop, length-take-le}
 use Rattle.definition.specs.Tokens.{Line}
 use Rattle.definition.specs.Passes.{Formed, conds, Passed as LinesPassed}
 use Rattle.definition.specs.Passes.Passed.{done as linesDone, tooDeep as linesDeep}
+use Rattle.definition.specs.Lists.{at}
 use Rattle.definition.proofs.Fits.{Fits}
 use Rattle.definition.proofs.Plain.{Good}
 use Rattle.definition.proofs.Regions.{Try}
 use Rattle.definition.proofs.Sweep.{tryAt, sweep, sweepN, sweep-none, sweep-deep, sweep-on, sweep-end, Goes}
 use Rattle.outline.specs.Rows.{lineOf, linesOf}
-use Rattle.outline.specs.Tests.{at}
 use Rattle.passes.specs.declared.sweeps.Passed.the-variants.{TooDeep}
 use Rattle.passes.specs.Sweeps.{Tried, Swept, swept, done, sweepRows}
 use Rattle.passes.proofs.Turns.{sweep-stop, turn-deep, turn-on}

@@ -10,12 +10,12 @@ use borrow.Author.Tests.{eq-eqb, ne-eqb}
 use lib.Dec.{eqb}
 use lib.ListN.{length, getD, take, drop}
 use lib.Seq.{drop-cons}
-use Rattle.definition.specs.Lists.{any}
+use Rattle.definition.specs.Lists.{any, at}
 use Rattle.definition.specs.Tokens.{Line}
 use Rattle.definition.specs.Passes.{Cut, consCut, scanAt, scan, Back, backAt, lastBack, closer, named as namedLine, backs as backsLine, stops as stopsLine}
 use Rattle.definition.proofs.ListLaws.{each-head, each-tail}
 use Rattle.outline.specs.Rows.{indentOf, lineOf}
-use Rattle.outline.specs.Tests.{at, labels, backs, stops, verdict, backVerdict, along, someRow}
+use Rattle.outline.specs.Tests.{labels, backs, stops, verdict, backVerdict, along, someRow}
 use Rattle.passes.specs.Regions.{onward, labelFrom, latest, backFrom}
 use Rattle.passes.proofs.Goals.{within, onward-one, latest-one}
 use Rattle.coding.proofs.Coding.{Aims, CodedRow, Coded, indent-is, named-row, stops-row}

@@ -6,7 +6,7 @@ use native.Mathlib.Omega.{arith}
 use native.Mathlib.Numerals.{add-one}
 use lib.ListN.{length, take, drop, set, length-append, length-drop, take-append-drop}
 use lib.Seq.{take-at, drop-at, set-at, drop-drop, drop-cons, drop-set-lt, take-suc-set, take-add, append-snoc, length-take-le}
-use Rattle.outline.specs.Tests.{at}
+use Rattle.definition.specs.Lists.{at}
 use Rattle.outline.specs.Forming.{changedIn, raised, inserted}
 use Rattle.passes.specs.Regions.{opened, headed, whiled, closeRow, formedIf, formedDo}
 use Rattle.coding.proofs.Scanning.{part}

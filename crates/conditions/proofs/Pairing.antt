@@ -9,7 +9,7 @@ use mir.Syntax.{w8}
 use mir.Val.{Fits as Bounded}
 use Rattle.words.proofs.Laws.{word-small}
 use Rattle.definition.specs.Edition.{Edition, statements}
-use Rattle.definition.specs.Lists.{range}
+use Rattle.definition.specs.Lists.{range, at}
 use Rattle.definition.specs.Texts.{txt}
 use Rattle.definition.specs.Words.{part}
 use Rattle.definition.specs.Contents.{size, offset, text, textAt}
@@ -19,9 +19,8 @@ use Rattle.definition.specs.Read.{allTrees, stmtAt}
 use Rattle.definition.specs.Tokens.{Token, keyword}
 use Rattle.definition.specs.Condition as D
 use Rattle.definition.specs.Condition.{codeOf, shownTokens, lastSetter, setterOf, comparison, conditionOf, condition}
-use Rattle.values.specs.declared.places.Places.{Places}
-use Rattle.values.specs.Keys.{keyOf, stmtKey, valueOf, keyed}
-use Rattle.values.specs.Tables.{at}
+use Rattle.places.specs.declared.Places.{Places}
+use Rattle.places.specs.Keys.{keyOf, stmtKey, valueOf, keyed}
 use Rattle.values.proofs.Tables.{key-not-0, decode}
 use Rattle.values.proofs.Placed.{at-stmt}
 use Rattle.sums.specs.Ground.{Ground}

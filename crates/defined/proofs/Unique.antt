@@ -3,10 +3,9 @@ use mathlib.Core.Path.{_≡_, refl, sym, ap, _∙_}
 use mathlib.Core.Bool.{Bool}
 use mathlib.Core.List.{List}
 use Prim.Native.Nat.{ℕ, _+_}
-use lib.ListN.{replicate}
 use Rattle.definition.specs.Owners.{firstItem}
 use Rattle.definition.specs.Values.{Value as DValue, eqv}
-use Rattle.definition.specs.Meaning.{phiValue, assigned, callReturns, definedOnce}
+use Rattle.definition.specs.Meaning.{phiValue, assigned, callReturns}
 use Rattle.defined.specs.declared.value.Value.{Value}
 use Rattle.defined.specs.declared.value.Defined.{Defined}
 use Rattle.defined.specs.declared.value.Defined.the-variants.{Nothing, One}
@@ -41,11 +40,3 @@ module _ (f : List ℕ) (i : ℕ) where
 
   pub next-item : (r s : ℕ) → r ≡ firstItem f (i + 1) → s ≡ firstItem f (i + 1) → r ≡ s
   next-item r s p q = p ∙ sym q
-
--- ---- each value once
-pub scan-once : (f : List ℕ) (r s : Bool) → r ≡ definedOnce f → s ≡ definedOnce f → r ≡ s
-scan-once f r s p q = p ∙ sym q
-
--- with the table at exit, u or v
-pub defined-once : (n : ℕ) (f u v : List ℕ) (r s : Bool) → (r ≡ definedOnce f) × (u ≡ replicate n 0) → (s ≡ definedOnce f) × (v ≡ replicate n 0) → (r ≡ s) × (u ≡ v)
-defined-once n f u v r s p q = (p .0 ∙ sym (q .0), p .1 ∙ sym (q .1))

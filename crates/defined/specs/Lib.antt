@@ -1,2 +1,1 @@
 pub mod Defined
-pub mod Slots

@@ -1,4 +1,2 @@
-// What a file defines: its values, and that each is defined once.
-pub mod once;
-pub mod slots;
+// What a file defines: its values, place by place.
 pub mod value;

@@ -4,8 +4,9 @@ use mathlib.Core.Bool.{Bool, true, false, cond, false≢true}
 use mathlib.Core.List.{List, [], _∷_, _++_, map}
 use Prim.Native.Nat.{ℕ, zero, suc, _+_, _≤_, _<_}
 use native.Mathlib.Omega.{arith}
-use lib.ListN.{length, take, drop, replicate, length-replicate}
-use Rattle.definition.specs.Lists.{all, any, only, count, total, range}
+use lib.ListN.{length, getD, take, drop, set, replicate, length-replicate, List·getD-eq-default}
+use lib.Seq.{set-out}
+use Rattle.definition.specs.Lists.{all, any, only, count, total, range, at}
 use Rattle.definition.proofs.Bools.{by-cond, both-false, both-true, or-cases, or-right, or-left, by-test}
 
 -- ---- every element
@@ -37,7 +38,7 @@ module _ {A : Type 0} {P : A → Type 0} where
   each-to f end = end
   each-to f (_▸_ {x = x} p h) = f x p ▸ each-to f h
 
-  pub each-map : {Q : A → Type 0} {xs : List A} (g : A → A) → ((x : A) → P x → Q (g x)) → Each P xs → Each Q (map g xs)
+  pub each-map : {B : Type 0} {Q : B → Type 0} {xs : List A} (g : A → B) → ((x : A) → P x → Q (g x)) → Each P xs → Each Q (map g xs)
   each-map g f end = end
   each-map g f (_▸_ {x = x} p h) = f x p ▸ each-map g f h
 
@@ -110,12 +111,12 @@ total-length [] = refl
 total-length (x ∷ xs) = omega (arith, total-length xs)
 
 -- ---- zeros
-pub zeros-long : (n : ℕ) (l : List ℕ) → l ≡ replicate n 0 → length l ≡ n
-zeros-long n l e = ap length e ∙ length-replicate n 0
+pub zeros-long : (l : List ℕ) (n : ℕ) → l ≡ replicate n 0 → length l ≡ n
+zeros-long l n e = ap length e ∙ length-replicate n 0
 
 -- zeros of some length are zeros of their own
 pub own-zeros : (l : List ℕ) (n : ℕ) → l ≡ replicate n 0 → l ≡ replicate (length l) 0
-own-zeros l n p = p ∙ ap (λ (k : ℕ). replicate k 0) (sym (zeros-long n l p))
+own-zeros l n p = p ∙ ap (λ (k : ℕ). replicate k 0) (sym (zeros-long l n p))
 
 -- ---- counts
 module _ {ℓ} {A : Type ℓ} (p : A → Bool) where
@@ -195,3 +196,15 @@ module _ {ℓ} {A : Type ℓ} (p : A → Bool) where
       go : (b : Bool) → only p (xs ++ ys) ≡ only p xs ++ only p ys → cond b (x ∷ only p (xs ++ ys)) (only p (xs ++ ys)) ≡ cond b (x ∷ only p xs) (only p xs) ++ only p ys
       go true r = ap (λ z. x ∷ z) r
       go false r = r
+
+-- ---- a place inside the list, and one outside
+pub at-in : (l : List ℕ) (i : ℕ) → getD l i 0 ≡ at l i
+unfolding at
+at-in l i = refl
+
+pub at-out : (l : List ℕ) (i : ℕ) → length l ≤ i → 0 ≡ at l i
+unfolding at
+at-out l i h = sym (List·getD-eq-default l 0 h)
+
+pub put-out : (l : List ℕ) (i x : ℕ) → length l ≤ i → l ≡ set l i x
+put-out l i x h = sym (set-out l i x h)

@@ -4,6 +4,7 @@ use mathlib.Core.Option.{Option, none, some}
 use mathlib.Core.List.{List, [], _∷_, _++_}
 use Prim.Native.Nat.{ℕ, zero, suc, _+_}
 use lib.Dec.{eqb}
+use lib.ListN.{getD}
 
 -- the test holds of every element, of some element
 unfoldable pub all {ℓ} : {A : Type ℓ} → (A → Bool) → List A → Bool
@@ -37,6 +38,10 @@ total f (x ∷ xs) = f x + total f xs
 unfoldable pub range : ℕ → ℕ → List ℕ
 range a zero = []
 range a (suc n) = a ∷ range (a + 1) n
+
+-- the number at place i, 0 outside
+unfoldable pub at : List ℕ → ℕ → ℕ
+at l i = getD l i 0
 
 -- the test holds of every number below n; the sum over them
 unfoldable pub allBelow : ℕ → (ℕ → Bool) → Bool

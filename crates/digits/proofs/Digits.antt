@@ -10,12 +10,12 @@ use lib.Dec.{ltb, lit≤}
 use lib.ListN.{length, drop, set, length-append, length-set}
 use lib.Seq.{drop-cons, getD-set-same, drop-set-lt, append-snoc}
 use Rattle.definition.specs.Numbers.{digit, digits}
-use Rattle.digits.specs.declared.leaf.Wrote.the-variants.{Bytes, NoRoom}
-use Rattle.digits.specs.declared.numbers.Radix.{Radix}
-use Rattle.digits.specs.declared.numbers.Radix.the-variants.{Decimal, Lower, Upper}
-use Rattle.digits.specs.Leaf.{Leaf}
+use Rattle.leaf.specs.declared.Wrote.the-variants.{Bytes, NoRoom}
+use Rattle.digits.specs.declared.Radix.{Radix}
+use Rattle.digits.specs.declared.Radix.the-variants.{Decimal, Lower, Upper}
+use Rattle.leaf.specs.Leaf.{Leaf}
 use Rattle.digits.specs.Numeral.{baseOf, tenOf, mostOf, numeral, filled}
-use Rattle.digits.proofs.Leaves.{leaf-short, leaf-fits}
+use Rattle.leaf.proofs.Leaves.{leaf-short, leaf-fits}
 
 -- ---- a digit
 pub digit-low : (ten d : ℕ) → d < 10 → 48 + d ≡ digit ten d

@@ -10,7 +10,7 @@ use Rattle.definition.specs.Texts.{txt}
 use Rattle.definition.specs.Offsets.{half, whole}
 use Rattle.definition.specs.Numbers.{decimal, hex, HEX, magnitude, num, slot, label, outward}
 use Rattle.definition.specs.Render.{pointer}
-use Rattle.digits.specs.declared.numbers.Radix.the-variants.{Decimal, Lower, Upper}
+use Rattle.digits.specs.declared.Radix.the-variants.{Decimal, Lower, Upper}
 use Rattle.digits.specs.Numeral.{baseOf, tenOf, mostOf, numeral}
 
 -- ---- the numerals are the definition's

@@ -3,8 +3,8 @@ use mathlib.Core.List.{List}
 use Prim.Native.Nat.{ℕ, zero, suc, _/_, _%_}
 use lib.ListN.{set}
 use Rattle.definition.specs.Numbers.{digit, digits}
-use Rattle.digits.specs.declared.numbers.Radix.{Radix}
-use Rattle.digits.specs.declared.numbers.Radix.the-variants.{Decimal, Lower, Upper}
+use Rattle.digits.specs.declared.Radix.{Radix}
+use Rattle.digits.specs.declared.Radix.the-variants.{Decimal, Lower, Upper}
 
 unfoldable pub baseOf : Radix → ℕ
 baseOf Decimal = 10

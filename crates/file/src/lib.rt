@@ -1,10 +1,10 @@
 // The reader: checks 2 to 6 in order over a lent file, and its exported form.
 use meaning::meaning::refused6;
 use records::edition::Edition;
-use references::references::refused5;
-use shape::limits::refused2;
-use shape::limits::refused3;
-use shape::shape::refused4;
+use references::refused5;
+use sections::limits::refused2;
+use sections::limits::refused3;
+use shape::refused4;
 use zeros::clear_words;
 ghost use mathlib.Core.Path.{_≡_};
 ghost use Rattle.file.specs.Verdicts.{numberOf, Judged, Checked};

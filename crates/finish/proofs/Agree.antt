@@ -8,12 +8,11 @@ use borrow.Author.Tests.{eqb-false}
 use lib.Dec.{eqb}
 use lib.ListN.{length, take, drop}
 use lib.Seq.{drop-cons}
-use Rattle.definition.specs.Lists.{range}
+use Rattle.definition.specs.Lists.{range, at}
 use Rattle.definition.specs.Tokens.{Line}
 use Rattle.definition.proofs.Bools.{by-test}
 use Rattle.sheet.specs.Buffers.{lineIn}
 use Rattle.outline.specs.Rows.{CLOSE, kindOf, indentOf, originOf, toksOf, lineOf, linesOf}
-use Rattle.outline.specs.Tests.{at}
 use Rattle.finish.specs.Finishing.{countOf, addressIn, rowAddress, laterToks, kindToks, originToks, rowLine, linesIn, Lows}
 
 module _ (ls ks t : List ℕ) (low : List Line) (held : Lows ls ks t low) where

@@ -5,7 +5,7 @@ use mathlib.Core.List.{List, [], _∷_, map}
 use Prim.Native.Nat.{ℕ, suc, _+_, _*_, _-_, _<_}
 use native.Mathlib.Omega.{arith}
 use borrow.Author.Tests.{eq-eqb, ne-eqb}
-use Rattle.definition.specs.Lists.{range}
+use Rattle.definition.specs.Lists.{range, at}
 use Rattle.definition.specs.Tokens.{Token, Line}
 use Rattle.definition.specs.Negate.{closeTokens, openTokens, doTokens, whileTokens}
 use Rattle.records.proofs.Ranges.{map-snoc}
@@ -14,9 +14,8 @@ use Rattle.room.specs.declared.out.At.the-variants.{Nowhere, Address}
 use Rattle.room.specs.Room.{Room, Sheet, sheetOf, emitAll, seen, optionOf, writeAll, seenSheet}
 use Rattle.room.specs.Ending.{Ended}
 use Rattle.room.proofs.Laws.{line-ended, writes, written-none}
-use Rattle.sheet.specs.Buffers.{numberAt, tokensIn, firstOf, lastOf}
+use Rattle.sheet.specs.Buffers.{tokensIn, firstOf, lastOf}
 use Rattle.outline.specs.Rows.{kindOf, originOf, indentOf}
-use Rattle.outline.specs.Tests.{at}
 use Rattle.finish.specs.Finishing.{countOf, addressIn, rowAddress, laterToks, kindToks, originToks, rowLine, linesIn, Headed, HeadedRow, Heads}
 
 -- ---- a lowered line
@@ -30,17 +29,17 @@ module _ (ls : List ℕ) (i a b : ℕ) (first : a ≡ firstOf ls i) (last : b �
   count-some = rw (first, last)
 
 module _ (ls : List ℕ) (i : ℕ) where
-  pub address-none : (x : ℕ) → x ≡ numberAt ls (5 * i + 0) → (x ≡ 1 → ⊥) → optionOf Nowhere ≡ addressIn ls i
+  pub address-none : (x : ℕ) → x ≡ at ls (5 * i + 0) → (x ≡ 1 → ⊥) → optionOf Nowhere ≡ addressIn ls i
   unfolding optionOf addressIn
   address-none x e n =
       let z : 5 * i + 0 ≡ 5 * i = omega arith in
-      rw (← (e ∙ ap (numberAt ls) z), ne-eqb x 1 n)
+      rw (← (e ∙ ap (at ls) z), ne-eqb x 1 n)
 
-  pub address-some : (x y : ℕ) → x ≡ numberAt ls (5 * i + 0) → x ≡ 1 → y ≡ numberAt ls (5 * i + 1) → optionOf (Address y) ≡ addressIn ls i
+  pub address-some : (x y : ℕ) → x ≡ at ls (5 * i + 0) → x ≡ 1 → y ≡ at ls (5 * i + 1) → optionOf (Address y) ≡ addressIn ls i
   unfolding optionOf addressIn
   address-some x y e one f =
       let z : 5 * i + 0 ≡ 5 * i = omega arith in
-      rw (← (e ∙ ap (numberAt ls) z), eq-eqb x 1 one, ← f)
+      rw (← (e ∙ ap (at ls) z), eq-eqb x 1 one, ← f)
 
 module _ (ls : List ℕ) (w k : ℕ) (kind : k ≡ kindOf w) where
   pub row-closes : k ≡ 6 → optionOf Nowhere ≡ rowAddress ls w

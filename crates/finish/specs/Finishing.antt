@@ -7,14 +7,13 @@ use mathlib.Core.List.{List, map}
 use Prim.Native.Nat.{ℕ, _+_, _*_, _-_, _<_}
 use lib.Dec.{eqb}
 use lib.ListN.{length}
-use Rattle.definition.specs.Lists.{range}
+use Rattle.definition.specs.Lists.{range, at}
 use Rattle.definition.specs.Read.{when}
 use Rattle.definition.specs.Tokens.{Token, Line}
 use Rattle.definition.specs.Negate.{closeTokens, openTokens, doTokens, whileTokens}
 use Rattle.definition.specs.Listing.{lineNumbers}
-use Rattle.sheet.specs.Buffers.{numberAt, tokensIn, firstOf, lastOf, lineIn}
+use Rattle.sheet.specs.Buffers.{tokensIn, firstOf, lastOf, lineIn}
 use Rattle.outline.specs.Rows.{IF-OPEN, CLOSE, DO-OPEN, WHILE-CLOSE, kindOf, indentOf, originOf, lineAt}
-use Rattle.outline.specs.Tests.{at}
 use Rattle.clips.specs.Clip.{Rises}
 
 -- how many tokens line i has
@@ -23,7 +22,7 @@ countOf ls i = lastOf ls i - firstOf ls i
 
 -- the address of line i; a closing row has none
 unfoldable pub addressIn : List ℕ → ℕ → Option ℕ
-addressIn ls i = when (numberAt ls (lineNumbers * i)) (numberAt ls (lineNumbers * i + 1))
+addressIn ls i = when (at ls (lineNumbers * i)) (at ls (lineNumbers * i + 1))
 
 unfoldable pub rowAddress : List ℕ → ℕ → Option ℕ
 rowAddress ls w = cond (eqb (kindOf w) CLOSE) none (addressIn ls (originOf w))

@@ -8,10 +8,10 @@ use crate::rows::origin_of;
 use crate::rows::row_address;
 use crate::rows::row_indent;
 use outline::rows::kind_of;
-use outline::rows::row_at;
 use room::line::end_line;
 use room::out::Out;
 use sheet::lines::first_of;
+use slices::at_u64;
 ghost use mathlib.Core.Path.{_≡_};
 ghost use mathlib.Core.List.{[], _∷_};
 ghost use Rattle.room.specs.Room.{sheetOf, writeAll, seenSheet};
@@ -61,7 +61,7 @@ pub fn finish(
     let mut out = out;
     let mut i = 0;
     while i < n {
-        let w = row_at(rows, i);
+        let w = at_u64(rows, i);
         out = write_row(lines, tokens, text, out, from, lowered, source, w);
         i += 1;
     }

@@ -9,7 +9,7 @@ use lib.Seq.{take-nil, drop-cons, length-take-le}
 use Rattle.definition.specs.Words.{part}
 use Rattle.definition.specs.Texts.{same}
 use Rattle.definition.specs.Contents.{offset}
-use Rattle.digits.proofs.Copies.{part-rest, part-in}
+use Rattle.leaf.proofs.Copies.{part-rest, part-in}
 use Rattle.ssa.specs.declared.parts.Text.{Text}
 use Rattle.flags.specs.Inside.{Inside}
 use Rattle.flags.specs.Heads.{textIn}

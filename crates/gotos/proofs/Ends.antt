@@ -8,7 +8,7 @@ use Prim.Native.Nat.{ℕ, _-_, _<_}
 use native.Mathlib.Omega.{arith}
 use lib.ListN.{length, replicate}
 use Rattle.definition.specs.Edition.{Edition, blocks}
-use Rattle.definition.specs.Lists.{among, orElse, range}
+use Rattle.definition.specs.Lists.{among, orElse, range, at}
 use Rattle.definition.specs.Contents.{size, blockLong}
 use Rattle.definition.specs.Ssa.{Block}
 use Rattle.definition.specs.Read.{allTrees, blockAt, read}
@@ -22,9 +22,8 @@ use Rattle.records.proofs.Ranges.{map-map}
 use Rattle.ssa.specs.Block.{blockRecord}
 use Rattle.ssa.specs.View.{viewDestination}
 use Rattle.ssa.specs.declared.block.Block.{Block as BlockS}
-use Rattle.values.specs.Tables.{at}
 use Rattle.values.proofs.Ranges.{at-left, map-length, at-below}
-use Rattle.marks.specs.Labels.{startAt, nextAt, Labels}
+use Rattle.labels.specs.Labels.{startAt, nextAt, Labels}
 use Rattle.room.specs.declared.out.Out.{Out}
 use Rattle.room.specs.declared.out.At.the-variants.{Nowhere, Address}
 use Rattle.room.specs.Room.{Room, Sheet, sheetOf, roomOf, emitAll, seen, writeAll, seenSheet, optionOf}

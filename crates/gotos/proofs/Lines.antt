@@ -12,7 +12,7 @@ use Rattle.definition.specs.Numbers.{label}
 use Rattle.definition.specs.Lookup.{isNext}
 use Rattle.definition.specs.Tokens.{Token, keyword, symbol, punct}
 use Rattle.definition.specs.Lower.{gotoTokens, firstOf}
-use Rattle.marks.specs.Labels.{nextAt}
+use Rattle.labels.specs.Labels.{nextAt}
 use Rattle.room.specs.declared.out.Out.{Out}
 use Rattle.room.specs.Room.{Room, Sheet, sheetOf, roomOf, emit, emitAll, seen, writeAll, seenSheet}
 use Rattle.room.specs.Ending.{Ended}

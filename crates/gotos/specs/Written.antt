@@ -14,7 +14,7 @@ use Rattle.definition.specs.Numbers.{label}
 use Rattle.definition.specs.Lookup.{order, isNext, targetName}
 use Rattle.definition.specs.Tokens.{Token, Line, textual, keyword, symbol, address, punct, line}
 use Rattle.definition.specs.Lower.{gotoTokens, commaList, firstOf}
-use Rattle.marks.specs.Labels.{nextAt}
+use Rattle.labels.specs.Labels.{nextAt}
 use Rattle.lowering.specs.Lowered.{loweringOf}
 use Rattle.lowering.specs.Commas.{treesOf, listed}
 

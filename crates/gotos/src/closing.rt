@@ -1,7 +1,7 @@
 // The goto that closes a block whose last statement does not leave it.
 use crate::goto::put_goto;
 use calls::targets::is_block;
-use marks::labels::is_next;
+use labels::is_next;
 use room::line::end_line;
 use room::out::At;
 use room::out::Out;
@@ -17,7 +17,7 @@ ghost use Rattle.definition.specs.Lists.{among, orElse};
 ghost use Rattle.definition.specs.Read.{read};
 ghost use Rattle.definition.specs.Lookup.{order, isNext};
 ghost use Rattle.definition.specs.Blocks.{closing as closingOf};
-ghost use Rattle.marks.specs.Labels.{nextAt};
+ghost use Rattle.labels.specs.Labels.{nextAt};
 ghost use Rattle.room.specs.Room.{sheetOf, writeAll, seenSheet};
 ghost use Rattle.lowering.specs.Lowered.{loweringOf, hereAt};
 

@@ -1,15 +1,15 @@
 // A jump inside the function: to a block, or computed.
 use crate::goto::put_goto;
+use labels::is_next;
 use lowering::kinds::KEYWORD;
 use lowering::kinds::PUNCT;
 use lowering::line::end_stmt;
 use lowering::list::put_expr;
-use marks::labels::is_next;
 use pieces::put::put;
+use places::Places;
 use records::contents::item_word;
 use records::owners::stmt_field;
 use room::out::Out;
-use values::places::Places;
 ghost use mathlib.Core.Path.{_≡_};
 ghost use Prim.Native.Nat.{_<_};
 ghost use Rattle.definition.specs.Edition.{Edition, blocks};

@@ -9,7 +9,7 @@ use mir.Syntax.{w8}
 use mir.Val.{Fits}
 use borrow.Author.Tests.{not-true, not-false}
 use Rattle.definition.specs.Edition.{Edition, blocks, statements}
-use Rattle.definition.specs.Lists.{gather, range}
+use Rattle.definition.specs.Lists.{gather, range, at}
 use Rattle.definition.specs.Contents.{size}
 use Rattle.definition.specs.Owners.{stmtField, blockStmts, firstStmt}
 use Rattle.definition.specs.Shape.{owned}
@@ -18,14 +18,14 @@ use Rattle.records.proofs.Items.{size-small}
 use Rattle.records.proofs.Below.{sum-start, sum-turn, sum-le}
 use Rattle.records.proofs.Ranges.{gather-append, range-parts}
 use Rattle.records.proofs.Parts.{owned-parts}
-use Rattle.values.specs.Keys.{placesOf}
-use Rattle.values.specs.Tables.{at, table}
+use Rattle.places.specs.Keys.{placesOf}
+use Rattle.values.specs.Tables.{table}
 use Rattle.values.proofs.Tables.{table-same, table-zero}
 use Rattle.values.proofs.Placed.{keyed-length}
-use Rattle.inline.specs.Search.{laterRead, single}
+use Rattle.later.specs.Search.{laterRead, single}
 use Rattle.inline.specs.Placing.{Placed, placedAt, placedIn, allPlaced, placeIn, placeOf, Adds, Told}
-use Rattle.inline.specs.declared.later.Later.{Later}
-use Rattle.inline.specs.declared.later.Later.the-variants.{At, Nowhere}
+use Rattle.later.specs.declared.Later.{Later}
+use Rattle.later.specs.declared.Later.the-variants.{At, Nowhere}
 use Rattle.inline.proofs.AtStatement.{target}
 use Rattle.inline.proofs.Telling.{singly, writes, passed-over, read-nowhere, read-later}
 

@@ -1,5 +1,4 @@
 mod Returns
-mod Searching
 pub mod AtStatement
 mod OneReader
 mod Telling

@@ -16,7 +16,7 @@ use Rattle.definition.specs.Read.{allTrees, kindAt, marked, read}
 use Rattle.definition.specs.Inline.{reads}
 use Rattle.definition.proofs.Bools.{by-test}
 use Rattle.reads.specs.Counts.{readsAt, readerBelow, lastReader}
-use Rattle.reads.proofs.Readers.{last-reader}
+use Rattle.reads.proofs.LastReader.{last-reader}
 
 module _ (f : List ℕ) (v : Value) (j : ℕ) (dead : marked f j 1 ≡ true) where
   dead-reads : readsAt f v j ≡ false

@@ -11,7 +11,7 @@ use mir.Syntax.{w8}
 use mir.Val.{Fits}
 use borrow.Author.Tests.{eqb-true, not-true}
 use Rattle.definition.specs.Edition.{Edition, statements}
-use Rattle.definition.specs.Lists.{count}
+use Rattle.definition.specs.Lists.{count, at}
 use Rattle.definition.specs.Contents.{size}
 use Rattle.definition.specs.Owners.{stmtKind, stmtField}
 use Rattle.definition.specs.Values.{Value, eqv, within, RSP}
@@ -21,17 +21,17 @@ use Rattle.definition.specs.Inline.{reads, phiReads, readsOf, hasLoad, readOnce
 use Rattle.definition.specs.Listing.{padded}
 use Rattle.definition.proofs.Bools.{by-test, both-true}
 use Rattle.words.proofs.Laws.{word-small}
-use Rattle.values.specs.Keys.{keyOf, stmtKey, placesOf, keyed}
-use Rattle.values.specs.Tables.{at, table}
+use Rattle.places.specs.Keys.{keyOf, stmtKey, placesOf, keyed}
+use Rattle.values.specs.Tables.{table}
 use Rattle.values.proofs.Tables.{table-read, table-write, Names}
 use Rattle.values.proofs.Placed.{at-stmt, keyed-length, stmt-here}
 use Rattle.reads.specs.Counts.{lastReader}
 use Rattle.reads.proofs.ReadAtAll.{bit-not}
-use Rattle.inline.specs.Search.{reached, laterRead, single}
+use Rattle.later.specs.Search.{reached, laterRead, single}
 use Rattle.inline.specs.Placing.{behind, placedAt, Told}
-use Rattle.inline.specs.declared.later.Later.{Later}
-use Rattle.inline.specs.declared.later.Later.the-variants.{At, Nowhere}
-use Rattle.inline.proofs.Searching.{search-is}
+use Rattle.later.specs.declared.Later.{Later}
+use Rattle.later.specs.declared.Later.the-variants.{At, Nowhere}
+use Rattle.later.proofs.Searching.{search-is}
 use Rattle.inline.proofs.AtStatement.{target, source, placing, placed-dead, placed-other, placed-assign}
 use Rattle.inline.proofs.OneReader.{one-reader}
 

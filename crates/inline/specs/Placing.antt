@@ -13,10 +13,10 @@ use Rattle.definition.specs.Values.{Value, eqv}
 use Rattle.definition.specs.Ssa.{Stmt}
 use Rattle.definition.specs.Read.{allTrees, stmtAt, read}
 use Rattle.definition.specs.Inline.{InPlace, readsOf, placeKind}
-use Rattle.values.specs.Keys.{placesOf}
+use Rattle.places.specs.Keys.{placesOf}
 use Rattle.values.specs.Tables.{numbered, table}
 use Rattle.reads.specs.Counts.{lastReader, LiveReads, PhiReads}
-use Rattle.reads.specs.Loads.{Loads}
+use Rattle.uses.specs.Loads.{Loads}
 
 -- a value written in place, and the statement that defines it
 pub record Placed : Type 0 where

@@ -1,9 +1,8 @@
 // Which values are written in place of their one use: for each the statement that defines it.
-pub mod later;
-
-use crate::later::Later;
-use crate::later::later_read;
 use defined::value::RSP;
+use later::Later;
+use later::later_read;
+use places::places_of;
 use records::contents::BLOCKS;
 use records::contents::size_of;
 use records::owners::ASSIGN;
@@ -11,18 +10,17 @@ use records::owners::block_stmts;
 use records::owners::is_dead;
 use records::owners::stmt_field;
 use records::owners::stmt_kind;
-use values::places::places_of;
-use values::read::at_u32;
-use values::read::put_u32;
+use slices::at_u32;
+use slices::put_u32;
 ghost use mathlib.Core.Path.{_≡_};
 ghost use Prim.Native.Nat.{_+_, _-_, _<_, _≤_};
 ghost use lib.ListN.{length, replicate};
 ghost use Rattle.definition.specs.Edition.{Edition, statements};
-ghost use Rattle.definition.specs.Lists.{gather, range};
+ghost use Rattle.definition.specs.Lists.{gather, range, at};
 ghost use Rattle.definition.specs.Contents.{size};
-ghost use Rattle.values.specs.Keys.{placesOf};
-ghost use Rattle.values.specs.Tables.{at, table};
-ghost use Rattle.inline.specs.Search.{single};
+ghost use Rattle.places.specs.Keys.{placesOf};
+ghost use Rattle.values.specs.Tables.{table};
+ghost use Rattle.later.specs.Search.{single};
 ghost use Rattle.inline.specs.Placing.{placedAt, placeOf, Adds, Told};
 
 // The number of the value that statement i defines.

@@ -30,7 +30,7 @@ use Rattle.ssa.specs.View.{viewDestination}
 use Rattle.ssa.specs.declared.block.Block.{Block}
 use Rattle.ssa.specs.declared.parts.Destination.{Destination}
 use Rattle.inline.specs.Placing.{behind}
-use Rattle.marks.specs.Labels.{startAt, nextAt}
+use Rattle.labels.specs.Labels.{startAt, nextAt}
 use Rattle.room.specs.Room.{Sheet, writeAll, seenSheet}
 use Rattle.room.proofs.Laws.{written-none}
 use Rattle.lowering.specs.Lowered.{loweringOf, stmtOf, lowered, hereAt}

@@ -20,7 +20,7 @@ use Rattle.definition.specs.Lower.{gotoTokens}
 use Rattle.ssa.specs.Block.{blockRecord}
 use Rattle.ssa.specs.View.{viewDestination}
 use Rattle.ssa.specs.declared.block.Block.{Block}
-use Rattle.marks.specs.Labels.{nextAt}
+use Rattle.labels.specs.Labels.{nextAt}
 use Rattle.room.specs.Room.{Room, Sheet, emit, emitAll, seen, writeAll, seenSheet}
 use Rattle.room.proofs.Laws.{next, more, writes, written-none, pieces-are}
 use Rattle.lowering.specs.Lowered.{loweringOf, hereAt}

@@ -14,7 +14,7 @@ use Rattle.definition.specs.Lookup.{order, isNext}
 use Rattle.definition.specs.Tokens.{Token, Line, keyword, symbol, punct}
 use Rattle.definition.specs.Condition.{condition}
 use Rattle.definition.specs.Lower.{gotoTokens}
-use Rattle.marks.specs.Labels.{nextAt}
+use Rattle.labels.specs.Labels.{nextAt}
 use Rattle.lowering.specs.Lowered.{loweringOf, hereAt}
 use Rattle.lowering.specs.Commas.{least}
 use Rattle.gotos.specs.Written.{usesOf, nameOf, stmtLine, toBlock, computedTokens, leaveOf}

@@ -106,8 +106,8 @@ module _ (f : List ℕ) (bytes : (k : ℕ) → Fits w8 (getD f k 0)) (l d x : Li
 
     two-served : (1536 ≤ length (U .keys)) × (769 ≤ length (U .offs))
     two-served =
-        let k : length (U .keys) ≡ 7696 = zeros-long (length (T .keys)) (U .keys) keys-are ∙ tables-long .0 in
-        let o : length (U .offs) ≡ 7696 = zeros-long (length (T .offs)) (U .offs) offs-are ∙ tables-long .1 in
+        let k : length (U .keys) ≡ 7696 = zeros-long (U .keys) (length (T .keys)) keys-are ∙ tables-long .0 in
+        let o : length (U .offs) ≡ 7696 = zeros-long (U .offs) (length (T .offs)) offs-are ∙ tables-long .1 in
         (omega (arith, k), omega (arith, o))
 
     gives : Given (linesOf f) ls₁ ks₁ t₁ (take 1536 (U .keys)) (take 769 (U .offs)) (w .lines)
@@ -149,7 +149,7 @@ module _ (f : List ℕ) (bytes : (k : ℕ) → Fits w8 (getD f k 0)) (l d x : Li
   same-lent : lent l₀ d₀ x₀ ≡ lentOf (length l) (length d) (length x)
   unfolding lent
   same-lent =
-      rw (zeros-long (length l) l₀ (blank .0), zeros-long (length d) d₀ (blank .1), zeros-long (length x) x₀ (blank .2)) refl
+      rw (zeros-long l₀ (length l) (blank .0), zeros-long d₀ (length d) (blank .1), zeros-long x₀ (length x) (blank .2)) refl
 
   -- nothing is lent wrongly, as the definition asks it
   same-test : all-right ≡ (ready ls ks t T && fits edition1 (lent l₀ d₀ x₀))

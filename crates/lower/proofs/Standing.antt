@@ -12,8 +12,8 @@ use Rattle.definition.specs.Lists.{sumBelow}
 use Rattle.definition.specs.Contents.{size}
 use Rattle.definition.specs.Owners.{blockStmts, firstStmt, firstItem}
 use Rattle.definition.specs.Shape.{owned}
-use Rattle.values.specs.declared.places.Places.{Places}
-use Rattle.values.specs.Keys.{placesOf}
+use Rattle.places.specs.declared.Places.{Places}
+use Rattle.places.specs.Keys.{placesOf}
 use Rattle.records.proofs.Items.{size-small}
 use Rattle.naming.proofs.Small.{parts-next, parts-below}
 use Rattle.room.specs.declared.out.Out.{Out}

@@ -15,8 +15,8 @@ use Rattle.definition.specs.Offsets.{offsets}
 use Rattle.definition.specs.Tokens.{Line}
 use Rattle.definition.specs.Lower.{Here}
 use Rattle.definition.specs.Blocks.{lastLeaves, closing, labelLine, lowerStmts, lowerBlock, lowerBlocks, lower}
-use Rattle.marks.specs.Labels.{nextAt, startAt}
-use Rattle.marks.proofs.Jumping.{next-is}
+use Rattle.labels.specs.Labels.{nextAt, startAt}
+use Rattle.labels.proofs.Jumping.{next-is}
 use Rattle.room.specs.declared.out.Out.{Out}
 use Rattle.room.specs.Blank.{fresh}
 use Rattle.room.specs.Room.{Sheet, sheetOf, writeAll, seenSheet}

@@ -8,10 +8,10 @@ use Rattle.definition.specs.Edition.{blocks}
 use Rattle.definition.specs.Contents.{size}
 use Rattle.definition.specs.Owners.{blockStmts, firstStmt, firstItem}
 use Rattle.definition.specs.Shape.{shaped}
-use Rattle.values.specs.declared.places.Places.{Places}
-use Rattle.values.specs.Keys.{placesOf}
+use Rattle.places.specs.declared.Places.{Places}
+use Rattle.places.specs.Keys.{placesOf}
 use Rattle.reads.specs.Counts.{LiveReads, PhiReads}
-use Rattle.marks.specs.Labels.{Labels}
+use Rattle.labels.specs.Labels.{Labels}
 use Rattle.render.specs.Told.{Told}
 use Rattle.plain.specs.Classed.{Classed}
 use Rattle.lower.specs.declared.block.Walk.{Walk}

@@ -4,10 +4,10 @@ mod stmt;
 
 use crate::block::Walk;
 use crate::block::lower_block;
+use places::places_of;
 use records::contents::BLOCKS;
 use records::contents::size_of;
 use room::out::Out;
-use values::places::places_of;
 ghost use mathlib.Core.Path.{_≡_};
 ghost use Rattle.definition.specs.Edition.{Edition};
 ghost use Rattle.definition.specs.Contents.{text as textOf};

@@ -2,6 +2,7 @@
 use calling::call::call;
 use conditions::operands::Found;
 use jumps::branch::branch;
+use places::Places;
 use plain::assign::assign;
 use plain::other::other;
 use plain::returns::returns;
@@ -9,7 +10,6 @@ use plain::store::store;
 use room::out::Out;
 use statements::statement::Kind;
 use statements::statement::stmt_at;
-use values::places::Places;
 ghost use mathlib.Core.Path.{_≡_};
 ghost use mathlib.Core.List.{List};
 ghost use Prim.Native.Nat.{ℕ};

@@ -10,8 +10,8 @@ use borrow.Author.Tests.{eq-eqb, ne-eqb}
 use Rattle.definition.specs.Edition.{edition1}
 use Rattle.definition.specs.Contents.{text}
 use Rattle.definition.specs.Values.{Value}
-use Rattle.values.specs.declared.places.Places.{Places}
-use Rattle.values.specs.Keys.{placesOf}
+use Rattle.places.specs.declared.Places.{Places}
+use Rattle.places.specs.Keys.{placesOf}
 use Rattle.values.specs.Tables.{numbered, table}
 use Rattle.values.proofs.Tables.{numbered-length, table-length}
 use Rattle.values.proofs.Placed.{keyed-length}

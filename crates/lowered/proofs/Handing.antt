@@ -21,13 +21,13 @@ use Rattle.definition.specs.Blocks.{readRoots}
 use Rattle.definition.specs.Listing.{checked, lineNumbers}
 use Rattle.definition.proofs.Bools.{both-true, passed}
 use Rattle.definition.proofs.ListLaws.{own-zeros}
-use Rattle.values.specs.Keys.{keyOf, placesOf, keyed}
+use Rattle.places.specs.Keys.{keyOf, placesOf, keyed}
 use Rattle.values.specs.Tables.{numberOf, numbered, table}
 use Rattle.reads.specs.Counts.{LiveReads, PhiReads}
 use Rattle.inline.specs.Placing.{placeOf}
 use Rattle.names.specs.Codes.{nameCode}
 use Rattle.sums.specs.Ground.{Ground}
-use Rattle.marks.specs.Labels.{Labels}
+use Rattle.labels.specs.Labels.{Labels}
 use Rattle.lower.specs.Given.{Lowers}
 use Rattle.tables.specs.Tables.{Tables, most}
 use Rattle.tables.specs.Filled.{Filled}

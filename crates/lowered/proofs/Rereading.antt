@@ -21,9 +21,9 @@ use Rattle.definition.specs.Classes.{find, classes}
 use Rattle.definition.specs.Blocks.{isSave, readRoots}
 use Rattle.definition.proofs.Bools.{by-test}
 use Rattle.records.proofs.Ranges.{gather-same}
-use Rattle.values.specs.Keys.{keyOf, placesOf, keyed}
+use Rattle.places.specs.Keys.{keyOf, placesOf, keyed}
 use Rattle.values.specs.Tables.{numberOf, table}
-use Rattle.reads.specs.Uses.{stmtUses}
+use Rattle.uses.specs.Uses.{stmtUses}
 use Rattle.reads.specs.Counts.{visit, slots}
 use Rattle.sums.specs.Ground.{Ground}
 use Rattle.sums.specs.Address.{valueAt, addressAt}

@@ -7,7 +7,8 @@ use lib.ListN.{length, replicate}
 use Rattle.definition.specs.Edition.{edition1}
 use Rattle.tables.specs.Tables.{Tables, tablesOf, zeros, cleared, long}
 use Rattle.tables.specs.Filled.{judged, answer, Filled}
-use Rattle.tables.proofs.Emptying.{long-zeros, zeros-of}
+use Rattle.definition.proofs.ListLaws.{zeros-long}
+use Rattle.tables.proofs.Emptying.{zeros-of}
 use Rattle.lent.specs.declared.answer.Lowered.{Lowered}
 use Rattle.lent.specs.Lengths.{lentOf, lowFits}
 use Rattle.lowered.specs.Lowered.{lowOf, upTo8, firstOf, lowIn, LoweredIn}
@@ -62,6 +63,6 @@ module _ (f : List ℕ) (s : ℕ) (T U : Tables) (p : Filled f s T U) (i : ℕ) 
     whole z a b e w g = record {
       low =
           e ∙ ap (λ (m : ℕ). lowIn (length l) (length k) (length x) f (upTo8 f m)) (refusals a b)
-          ∙ rw (long-zeros l (length l₀) (z .0), long-zeros k (length k₀) (z .1), long-zeros x (length x₀) (z .2)) refl;
+          ∙ rw (zeros-long l (length l₀) (z .0), zeros-long k (length k₀) (z .1), zeros-long x (length x₀) (z .2)) refl;
       tables = all-gone w g;
     }

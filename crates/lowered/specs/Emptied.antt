@@ -4,7 +4,7 @@ use mathlib.Core.List.{List, _++_}
 use Prim.Native.Nat.{ℕ, _≤_}
 use lib.Dec.{eqb}
 use lib.ListN.{length, drop, replicate}
-use Rattle.values.specs.Keys.{placesOf}
+use Rattle.places.specs.Keys.{placesOf}
 
 -- how many numbers of a table by place are filled, where s is the answer of checks 1 to 7
 unfoldable pub filledTo : List ℕ → ℕ → ℕ

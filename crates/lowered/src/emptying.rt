@@ -1,6 +1,6 @@
 // The tables that lowering read, emptied as far as they are filled.
+use places::places_of;
 use tables::clearing::clear_four;
-use values::places::places_of;
 use zeros::clear_longs;
 ghost use mathlib.Core.Path.{_≡_};
 ghost use lib.ListN.{length, replicate};

@@ -1,12 +1,12 @@
 // Expressions with `, ` between them.
 use crate::kinds::PUNCT;
 use pieces::put::put;
+use places::Places;
 use records::contents::STATEMENTS;
 use records::contents::item_word;
 use records::contents::size_of;
 use render::expr::expr;
 use room::out::Out;
-use values::places::Places;
 ghost use mathlib.Core.Path.{_≡_};
 ghost use mathlib.Core.List.{map};
 ghost use Prim.Native.Nat.{ℕ, _+_, _<_};

@@ -8,7 +8,7 @@ use lib.ListN.{length, getD, set, replicate, length-append}
 use mir.Syntax.{w8}
 use mir.Val.{Fits}
 use Rattle.definition.specs.Edition.{Edition, statements}
-use Rattle.definition.specs.Lists.{only, gather, range}
+use Rattle.definition.specs.Lists.{only, gather, range, at}
 use Rattle.definition.specs.Contents.{size, text}
 use Rattle.definition.specs.Shape.{owned}
 use Rattle.definition.specs.Values.{Value, within}
@@ -23,19 +23,20 @@ use Rattle.definition.proofs.Bools.{by-cond}
 use Rattle.definition.proofs.ListLaws.{Each, end}
 use Rattle.records.proofs.Ranges.{map-gather, gather-only, gather-same}
 use Rattle.records.proofs.Parts.{stmts-are}
-use Rattle.values.specs.declared.places.Places.{Places}
-use Rattle.values.specs.Keys.{keyOf, placesOf, keyed}
-use Rattle.values.specs.Tables.{at, numberOf, numbered, table}
+use Rattle.places.specs.declared.Places.{Places}
+use Rattle.places.specs.Keys.{keyOf, placesOf, keyed}
+use Rattle.values.specs.Tables.{numberOf, numbered, table}
 use Rattle.values.proofs.Tables.{table-zero}
 use Rattle.values.proofs.Placed.{keyed-length}
 use Rattle.values.proofs.Ranges.{map-length}
-use Rattle.reads.specs.Uses.{stmtUses, useStart, useStarts, useValue}
-use Rattle.reads.specs.Orders.{Ordered}
+use Rattle.uses.specs.Uses.{stmtUses, useStart, useStarts, useValue}
+use Rattle.uses.specs.Orders.{Ordered}
 use Rattle.reads.specs.Counts.{placed, visit, slots, between, Runs}
-use Rattle.reads.proofs.Trees.{Both, none-left, and-then, uses-are}
+use Rattle.uses.proofs.Trees.{Both, none-left, and-then, uses-are}
 use Rattle.reads.proofs.Nodes.{IsUse, each-gather, stmt-nodes}
 use Rattle.reads.proofs.Visits.{stmt-run}
 use Rattle.reads.proofs.Named.{StandsFor, mark-all, uses-named}
+use Rattle.names.specs.Given.{rootTable}
 use Rattle.names.proofs.Mentioned.{root-number}
 use Rattle.names.proofs.Rooted.{rooted}
 use Rattle.sums.specs.Ground.{Ground}
@@ -103,30 +104,27 @@ by-roots roots t [] = refl
 by-roots roots t (s ∷ ss) = by-roots roots (set t (at roots s) 1) ss
 
 module _ (f : List ℕ) (bytes : (j : ℕ) → Fits w8 (getD f j 0)) (own : owned f ≡ true) (n : ℕ) (room : placesOf f .total ≤ n) (E : Edition) where
-  abbrev rootTable : List ℕ
-  rootTable = table f n (λ v. numberOf (keyed f n) (keyOf (find (classes (read E f)) v)))
-
-  root-named : (s : ℕ) (v : Value) → StandsFor f n s v → StandsFor f n (at rootTable s) (find (classes (read E f)) v)
+  root-named : (s : ℕ) (v : Value) → StandsFor f n s v → StandsFor f n (at (rootTable E f n) s) (find (classes (read E f)) v)
   root-named s v w =
       let to = rooted f bytes own n room E (w .spot) v (w .by) in
       record {
         spot = to .0;
         by = to .1;
-        number = ap (at rootTable) (w .number) ∙ root-number f n (find (classes (read E f))) (w .spot) (to .0) v (w .by) (to .1);
+        number = ap (at (rootTable E f n)) (w .number) ∙ root-number f n (find (classes (read E f))) (w .spot) (to .0) v (w .by) (to .1);
       }
 
-  roots-named : {ss : List ℕ} {vs : List Value} → Both (StandsFor f n) ss vs → Both (StandsFor f n) (map (at rootTable) ss) (map (find (classes (read E f))) vs)
+  roots-named : {ss : List ℕ} {vs : List Value} → Both (StandsFor f n) ss vs → Both (StandsFor f n) (map (at (rootTable E f n)) ss) (map (find (classes (read E f))) vs)
   roots-named none-left = none-left
   roots-named (and-then {x = s} {y = v} w r) = and-then (root-named s v w) (roots-named r)
 
-  root-table : (k : List Known) → visit (classed rootTable) (replicate n 0) (slots (numbered f n) (placesOf f .exprs) (gather (reading E f k) (range 0 (size f statements))))
+  root-table : (k : List Known) → visit (classed (rootTable E f n)) (replicate n 0) (slots (numbered f n) (placesOf f .exprs) (gather (reading E f k) (range 0 (size f statements))))
       ≡ table f n (λ v. cond (within v (readRoots (read E f) k (classes (read E f)))) 1 0)
   root-table k =
       let m = size f statements in
       let ns = gather (reading E f k) (range 0 m) in
       let ss = slots (numbered f n) (placesOf f .exprs) ns in
-      ap (λ (t : List ℕ). visit (classed rootTable) t ss) (sym (table-zero f n ∙ ap (λ (j : ℕ). replicate j 0) (keyed-length f n own room)))
-      ∙ by-roots rootTable (table f n (λ v. 0)) ss
+      ap (λ (t : List ℕ). visit (classed (rootTable E f n)) t ss) (sym (table-zero f n ∙ ap (λ (j : ℕ). replicate j 0) (keyed-length f n own room)))
+      ∙ by-roots (rootTable E f n) (table f n (λ v. 0)) ss
       ∙ mark-all f n (roots-named (uses-named f n own room bytes (each-gather (reading E f k) (read-nodes E f k) (range 0 m)))) 1 (λ v. 0)
       ∙ ap (λ (vs : List Value). table f n (λ v. cond (within v vs) 1 0)) (all-read E f k own)
 

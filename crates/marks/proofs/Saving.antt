@@ -18,7 +18,7 @@ use Rattle.definition.specs.Lower.{isSaved, saves}
 use Rattle.definition.specs.Blocks.{isSave}
 use Rattle.definition.proofs.Bools.{by-test}
 use Rattle.records.proofs.Trees.{tree-lower, tree-past}
-use Rattle.reads.proofs.Codes.{by-code}
+use Rattle.records.proofs.Codes.{by-code}
 use Rattle.marks.specs.Reading.{savedUse, savedAt}
 
 -- ---- is an expression a callee-saved register's entry value

@@ -1,33 +1,22 @@
--- Each public contract of this crate says by an equation what comes out, so no second outcome meets it. Where it holds for every edition, one is enough.
+-- Each public contract of this crate says by an equation what comes out, so no second outcome meets it.
 use mathlib.Core.Path.{_≡_, refl, sym, _∙_}
 use mathlib.Core.Bool.{Bool}
 use mathlib.Core.List.{List}
 use Prim.Native.Nat.{ℕ}
-use Rattle.definition.specs.Edition.{Edition, edition1}
+use Rattle.definition.specs.Edition.{Edition}
 use Rattle.definition.specs.Contents.{text}
 use Rattle.definition.specs.Read.{kindAt, allTrees, read}
 use Rattle.definition.specs.Offsets.{Known, look}
 use Rattle.definition.specs.Blocks.{isSave}
-use Rattle.definition.specs.Lookup.{isNext}
 use Rattle.definition.specs.Classes.{find, classes}
-use Rattle.values.specs.Keys.{keyOf, keyed}
+use Rattle.places.specs.Keys.{keyOf, keyed}
 use Rattle.values.specs.Tables.{numberOf, table}
-use Rattle.marks.specs.Labels.{blockOf, nextAt, Labels}
 use Rattle.marks.specs.Reading.{ReadRoots}
-
-pub block-of : (f : List ℕ) (a r s : ℕ) → r ≡ blockOf f a → s ≡ blockOf f a → r ≡ s
-block-of f a r s p q = p ∙ sym q
-
-pub is-next : (f : List ℕ) (b a : ℕ) (r s : Bool) → r ≡ isNext (nextAt f b) a → s ≡ isNext (nextAt f b) a → r ≡ s
-is-next f b a r s p q = p ∙ sym q
 
 pub is-save : (E : Edition) (k : List Known) (f offsets : List ℕ) (n i : ℕ) (r s : Bool) → offsets ≡ table f n (look k)
     → ((F : Edition) (j : List Known) → text F ≡ text E → offsets ≡ table f n (look j) → r ≡ isSave j (kindAt F f (allTrees F f) i))
     → ((F : Edition) (j : List Known) → text F ≡ text E → offsets ≡ table f n (look j) → s ≡ isSave j (kindAt F f (allTrees F f) i)) → r ≡ s
 is-save E k f offsets n i r s a p q = p E k refl a ∙ sym (q E k refl a)
-
-pub labels : (f : List ℕ) (n : ℕ) (t u : List ℕ) → Labels f n t → Labels f n u → t ≡ u
-labels f n t u p q = p edition1 ∙ sym (q edition1)
 
 pub read-roots : (E : Edition) (k : List Known) (f : List ℕ) (n : ℕ) (offsets roots t u : List ℕ) → offsets ≡ table f n (look k)
     → roots ≡ table f n (λ v. numberOf (keyed f n) (keyOf (find (classes (read E f)) v))) → ReadRoots f (text E) n offsets roots t → ReadRoots f (text E) n offsets roots u → t ≡ u

@@ -14,8 +14,9 @@ use Rattle.definition.specs.Offsets.{Known, look}
 use Rattle.definition.specs.Classes.{classes}
 use Rattle.definition.specs.Registers.{calleeSaved}
 use Rattle.definition.specs.Blocks.{isSave, readRoots}
-use Rattle.values.specs.Tables.{at, table}
-use Rattle.reads.specs.Uses.{stmtUses}
+use Rattle.definition.specs.Lists.{at}
+use Rattle.values.specs.Tables.{table}
+use Rattle.uses.specs.Uses.{stmtUses}
 use Rattle.names.specs.Given.{rootTable}
 
 -- expression n is a callee-saved register's entry value

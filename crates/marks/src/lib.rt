@@ -1,4 +1,3 @@
-// What lowering asks beside names and places: which blocks have a label, and which statements are saves, and which classes are really read.
-pub mod labels;
+// What lowering asks beside names, places and labels: which statements are saves, and which classes are really read.
 pub mod roots;
 pub mod saves;

@@ -1,12 +1,12 @@
 // Which classes are really read: by a live statement that is no save of a callee-saved register's entry value to its stack slot.
 use crate::saves::is_save;
+use places::Places;
+use places::places_of;
 use records::contents::STATEMENTS;
 use records::contents::size_of;
 use records::owners::is_dead;
-use values::places::Places;
-use values::places::places_of;
-use values::read::at_u32;
-use values::read::put_u32;
+use slices::at_u32;
+use slices::put_u32;
 ghost use mathlib.Core.Path.{_≡_};
 ghost use mathlib.Core.Bool.{_||_};
 ghost use mathlib.Core.List.{List};
@@ -17,9 +17,9 @@ ghost use Rattle.definition.specs.Contents.{size, text};
 ghost use Rattle.definition.specs.Read.{kindAt, allTrees, marked};
 ghost use Rattle.definition.specs.Offsets.{Known, look};
 ghost use Rattle.definition.specs.Blocks.{isSave};
-ghost use Rattle.values.specs.Keys.{placesOf};
+ghost use Rattle.places.specs.Keys.{placesOf};
 ghost use Rattle.values.specs.Tables.{table};
-ghost use Rattle.reads.specs.Orders.{Ordered};
+ghost use Rattle.uses.specs.Orders.{Ordered};
 ghost use Rattle.reads.specs.Counts.{visit, slots, between};
 ghost use Rattle.sums.specs.Ground.{Ground};
 ghost use Rattle.marks.specs.Reading.{classed, reading, ReadRoots};

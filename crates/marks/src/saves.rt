@@ -1,4 +1,5 @@
 // The prologue's saves of callee-saved registers' entry values to their stack slots.
+use places::Places;
 use records::contents::EXPRESSIONS;
 use records::contents::expr_word;
 use records::contents::size_of;
@@ -8,7 +9,6 @@ use records::owners::stmt_field;
 use records::owners::stmt_kind;
 use sums::address::stack_off;
 use text::registers::Register;
-use values::places::Places;
 ghost use mathlib.Core.Path.{_≡_};
 ghost use mathlib.Core.List.{List};
 ghost use lib.ListN.{length};

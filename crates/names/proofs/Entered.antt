@@ -9,7 +9,7 @@ use lib.ListN.{length, getD, replicate, length-append}
 use mir.Syntax.{w8}
 use mir.Val.{Fits}
 use Rattle.definition.specs.Edition.{Edition, args, statements}
-use Rattle.definition.specs.Lists.{any, only, gather, range}
+use Rattle.definition.specs.Lists.{any, only, gather, range, at}
 use Rattle.definition.specs.Contents.{size, argAt}
 use Rattle.definition.specs.Owners.{stmtKind}
 use Rattle.definition.specs.Shape.{owned}
@@ -23,11 +23,11 @@ use Rattle.definition.proofs.Bools.{by-test, by-cond, or-right}
 use Rattle.definition.proofs.ListLaws.{Each, end, _▸_}
 use Rattle.records.proofs.Ranges.{range-last, map-gather, gather-same}
 use Rattle.records.proofs.Parts.{stmts-are}
-use Rattle.values.specs.Tables.{at, numbered, table}
+use Rattle.values.specs.Tables.{numbered, table}
 use Rattle.values.proofs.Tables.{table-same, eqv-swap, zeros-are, table-read}
 use Rattle.values.proofs.Placed.{keyed-length}
 use Rattle.values.proofs.Ranges.{map-length}
-use Rattle.reads.proofs.Codes.{by-code}
+use Rattle.records.proofs.Codes.{by-code}
 use Rattle.reads.proofs.ReadAtAll.{bit-so}
 use Rattle.names.specs.Codes.{coded}
 use Rattle.names.specs.Spots.{Spot, useSpots, entrySpots, ticked, upTo}

@@ -7,7 +7,7 @@ use lib.Dec.{eqb}
 use lib.ListN.{set}
 use borrow.Author.Tests.{eq-eqb, ne-eqb, lt-ltb, le-ltb}
 use Rattle.definition.specs.Values.{value}
-use Rattle.values.specs.Tables.{at}
+use Rattle.definition.specs.Lists.{at}
 use Rattle.names.specs.Spots.{State, spot, known, state, noted, met, named}
 
 -- ---- is a value the root of its own class

@@ -10,18 +10,18 @@ use mir.Syntax.{w8}
 use mir.Val.{Fits}
 use Rattle.words.proofs.Laws.{word-small}
 use Rattle.definition.specs.Edition.{args, phis, phiWords, inputs, inputWords, expressions, exprWords}
-use Rattle.definition.specs.Lists.{gather, range}
+use Rattle.definition.specs.Lists.{gather, range, at}
 use Rattle.definition.specs.Contents.{size, place, argAt, phiWord, inputAt}
 use Rattle.definition.specs.Owners.{phiInputs, firstInput}
 use Rattle.definition.specs.Shape.{owned}
 use Rattle.definition.specs.Values.{Value, value, eqv}
 use Rattle.definition.specs.Meaning.{phiValue}
-use Rattle.definition.proofs.ListLaws.{Each, end, _▸_, each-append}
-use Rattle.values.specs.Keys.{keyOf, argKey, phiKey, inputKey, exprKey, placesOf, keyed}
-use Rattle.values.specs.Tables.{at, numberOf, numbered, table}
+use Rattle.definition.proofs.ListLaws.{Each, end, _▸_, each-append, each-map}
+use Rattle.places.specs.Keys.{keyOf, argKey, phiKey, inputKey, exprKey, placesOf, keyed}
+use Rattle.values.specs.Tables.{numberOf, numbered, table}
 use Rattle.values.proofs.Tables.{numbered-at, table-same, table-read, table-write, Names}
 use Rattle.values.proofs.Placed.{at-arg, at-phi, at-input, at-expr, keyed-length, arg-here, phi-here, input-here, expr-here}
-use Rattle.reads.specs.Uses.{useValue}
+use Rattle.uses.specs.Uses.{useValue}
 use Rattle.reads.proofs.Nodes.{IsUse, stmt-nodes}
 use Rattle.names.specs.Codes.{coded}
 use Rattle.names.specs.Spots.{Spot, spot, useSpot, useSpots}
@@ -55,10 +55,6 @@ module _ {A : Type 0} (P : A → Type 0) where
   each-runs g a zero h = end
   each-runs g a (suc n) h = each-append (h a (omega arith)) (each-runs g (a + 1) n (λ i k. h i (omega arith)))
 
-  each-from : {B : Type 0} {Q : B → Type 0} (g : B → A) → ((b : B) → Q b → P (g b)) → {xs : List B} → Each Q xs → Each P (map g xs)
-  each-from g h end = end
-  each-from g h (_▸_ {x = x} q r) = h x q ▸ each-from g h r
-
 -- ---- places that name values
 module _ (f : List ℕ) (bytes : (k : ℕ) → Fits w8 (getD f k 0)) (own : owned f ≡ true) (n : ℕ) (room : placesOf f .total ≤ n) where
   pub named-at : (p : ℕ) (v : Value) → p < placesOf f .total → at (keyed f n) p ≡ keyOf v → v .ver < 4294967296 → Names f n p v
@@ -83,4 +79,4 @@ module _ (f : List ℕ) (bytes : (k : ℕ) → Fits w8 (getD f k 0)) (own : owne
   -- ---- each spot that is read
   pub uses-right : (i : ℕ) → Each (Right f n) (useSpots f i)
   unfolding useSpots useSpot
-  uses-right i = each-from (Right f n) (λ (m : ℕ). spot (placesOf f .exprs + m) (useValue f m)) use-named (stmt-nodes f i)
+  uses-right i = each-map (λ (m : ℕ). spot (placesOf f .exprs + m) (useValue f m)) use-named (stmt-nodes f i)

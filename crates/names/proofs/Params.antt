@@ -6,7 +6,7 @@ use Prim.Native.Nat.{ℕ, zero, suc, _-_, _<_}
 use native.Mathlib.Omega.{arith}
 use lib.Dec.{eqb}
 use borrow.Author.Tests.{eq-eqb, ne-eqb}
-use Rattle.values.specs.Tables.{at}
+use Rattle.definition.specs.Lists.{at}
 use Rattle.names.specs.Spots.{upTo}
 
 -- is argument register j really read

@@ -6,7 +6,7 @@ use Prim.Native.Nat.{ℕ, suc, _+_, _-_, _≤_, _<_}
 use native.Mathlib.Omega.{arith}
 use lib.ListN.{length, replicate}
 use Rattle.definition.specs.Edition.{Edition, statements}
-use Rattle.definition.specs.Lists.{range, sumBelow}
+use Rattle.definition.specs.Lists.{range, sumBelow, at}
 use Rattle.definition.specs.Contents.{size}
 use Rattle.definition.specs.Values.{Value}
 use Rattle.definition.specs.Ssa.{uses}
@@ -14,12 +14,11 @@ use Rattle.definition.specs.Read.{allTrees, kindAt}
 use Rattle.definition.specs.Listing.{padded}
 use Rattle.records.proofs.Below.{sum-turn, sum-le}
 use Rattle.records.proofs.Ranges.{map-map}
-use Rattle.values.specs.Keys.{placesOf}
-use Rattle.values.specs.Tables.{at}
+use Rattle.places.specs.Keys.{placesOf}
 use Rattle.values.proofs.Ranges.{at-left, at-below, at-gather, map-length, gather-length}
-use Rattle.reads.specs.Uses.{stmtUses, useValue, useOrder, useStart, useStarts}
-use Rattle.reads.specs.Orders.{Ordered}
-use Rattle.reads.proofs.Trees.{uses-are}
+use Rattle.uses.specs.Uses.{stmtUses, useValue, useOrder, useStart, useStarts}
+use Rattle.uses.specs.Orders.{Ordered}
+use Rattle.uses.proofs.Trees.{uses-are}
 use Rattle.names.specs.Spots.{Spot, spot, useSpot, useSpots}
 
 -- a run of a list that has l from x on

@@ -22,7 +22,7 @@ use Rattle.definition.proofs.Bools.{by-cond}
 use Rattle.definition.proofs.ListLaws.{Each, end, _▸_, each-map}
 use Rattle.records.proofs.Ranges.{gather-only, map-map}
 use Rattle.records.proofs.Parts.{phis-are}
-use Rattle.values.specs.Keys.{placesOf}
+use Rattle.places.specs.Keys.{placesOf}
 use Rattle.values.proofs.Tables.{Names}
 use Rattle.names.proofs.Mentioned.{each-run, each-runs, phi-named, input-named}
 

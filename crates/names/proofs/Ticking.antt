@@ -6,11 +6,10 @@ use Prim.Native.Nat.{ℕ, _+_, _-_}
 use lib.Dec.{eqb}
 use lib.ListN.{set}
 use borrow.Author.Tests.{eq-eqb, ne-eqb}
-use Rattle.definition.specs.Lists.{range}
+use Rattle.definition.specs.Lists.{range, at}
 use Rattle.definition.specs.Owners.{stmtKind}
 use Rattle.definition.specs.Read.{marked}
-use Rattle.values.specs.Keys.{placesOf}
-use Rattle.values.specs.Tables.{at}
+use Rattle.places.specs.Keys.{placesOf}
 use Rattle.reads.specs.Counts.{placed, visit, slots, between}
 use Rattle.names.specs.Spots.{useSpot, useSpots, entrySpots, ticked}
 

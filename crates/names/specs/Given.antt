@@ -12,7 +12,7 @@ use Rattle.definition.specs.Read.{read}
 use Rattle.definition.specs.Classes.{find, classes}
 use Rattle.definition.specs.Inline.{readsOf, inline}
 use Rattle.definition.specs.Names.{entryReads, params}
-use Rattle.values.specs.Keys.{keyOf, placesOf, keyed}
+use Rattle.places.specs.Keys.{keyOf, placesOf, keyed}
 use Rattle.values.specs.Tables.{numberOf, numbered, table}
 use Rattle.names.specs.Codes.{nameCode}
 

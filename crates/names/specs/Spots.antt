@@ -9,9 +9,9 @@ use Rattle.definition.specs.Codes.{kCall, kBranch}
 use Rattle.definition.specs.Owners.{stmtKind}
 use Rattle.definition.specs.Values.{Value, RSP}
 use Rattle.definition.specs.Read.{marked}
-use Rattle.values.specs.Keys.{placesOf}
-use Rattle.values.specs.Tables.{at}
-use Rattle.reads.specs.Uses.{stmtUses, useValue}
+use Rattle.definition.specs.Lists.{at}
+use Rattle.places.specs.Keys.{placesOf}
+use Rattle.uses.specs.Uses.{stmtUses, useValue}
 
 -- a value that is mentioned, and a place that names it
 pub record Spot : Type 0 where

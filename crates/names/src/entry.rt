@@ -1,5 +1,6 @@
 // The values that are really read at entry, and the parameters: the argument registers up to the last of which the entry value is.
-use reads::counts::mark_run;
+use places::places_of;
+use reads::mark_run;
 use records::contents::ARGS;
 use records::contents::STATEMENTS;
 use records::contents::size_of;
@@ -7,8 +8,7 @@ use records::owners::BRANCH;
 use records::owners::CALL;
 use records::owners::is_dead;
 use records::owners::stmt_kind;
-use values::places::places_of;
-use values::read::at_u32;
+use slices::at_u32;
 ghost use mathlib.Core.Path.{_≡_};
 ghost use mathlib.Core.Bool.{_||_};
 ghost use Prim.Native.Nat.{_<_};
@@ -19,8 +19,8 @@ ghost use Rattle.definition.specs.Edition.{statements};
 ghost use Rattle.definition.specs.Contents.{size};
 ghost use Rattle.definition.specs.Owners.{stmtKind};
 ghost use Rattle.definition.specs.Read.{marked};
-ghost use Rattle.values.specs.Keys.{placesOf};
-ghost use Rattle.reads.specs.Orders.{Ordered};
+ghost use Rattle.places.specs.Keys.{placesOf};
+ghost use Rattle.uses.specs.Orders.{Ordered};
 ghost use Rattle.names.specs.Spots.{entrySpots, ticked};
 ghost use Rattle.names.specs.Given.{Numbered, Counted, EntryRead};
 

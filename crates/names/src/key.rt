@@ -1,8 +1,8 @@
 // One value named: its entry in the table of values, that of its class, and the next local's number.
 use defined::value::RSP;
 use defined::value::Value;
-use values::read::at_u32;
-use values::read::put_u32;
+use slices::at_u32;
+use slices::put_u32;
 ghost use mathlib.Core.Path.{_≡_};
 ghost use mathlib.Core.Bool.{_&&_};
 ghost use lib.Dec.{eqb};

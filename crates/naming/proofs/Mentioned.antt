@@ -21,7 +21,7 @@ use Rattle.definition.specs.Read.{marked}
 use Rattle.definition.proofs.Bools.{by-cond, both-true}
 use Rattle.definition.proofs.ListLaws.{Each, end, _▸_, each-append}
 use Rattle.defined.specs.Defined.{itemValue}
-use Rattle.values.specs.Keys.{stmtKey, itemKey, placesOf}
+use Rattle.places.specs.Keys.{stmtKey, itemKey, placesOf}
 use Rattle.values.proofs.Placed.{at-stmt, at-item, stmt-here, item-here}
 use Rattle.values.proofs.Tables.{Names}
 use Rattle.names.specs.Spots.{spot}

@@ -16,7 +16,7 @@ use Rattle.definition.specs.Read.{read}
 use Rattle.definition.specs.Classes.{find, classes}
 use Rattle.definition.specs.Inline.{readsOf, inline, inPlace}
 use Rattle.definition.specs.Names.{params, blockKeys}
-use Rattle.values.specs.Keys.{keyOf, keyed}
+use Rattle.places.specs.Keys.{keyOf, keyed}
 use Rattle.values.specs.Tables.{numberOf, numbered, table}
 use Rattle.values.proofs.Tables.{table-same, zeros-are, Names}
 use Rattle.values.proofs.Placed.{keyed-length}

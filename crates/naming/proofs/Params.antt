@@ -4,7 +4,7 @@ use mathlib.Core.List.{List}
 use Prim.Native.Nat.{ℕ, zero, suc, _*_, _-_, _<_}
 use native.Mathlib.Omega.{arith}
 use lib.ListN.{set}
-use Rattle.values.specs.Tables.{at}
+use Rattle.definition.specs.Lists.{at}
 use Rattle.naming.specs.Walk.{paramsSeen}
 
 -- by numbers ns and roots rs

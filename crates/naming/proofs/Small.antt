@@ -15,7 +15,7 @@ use Rattle.definition.specs.Shape.{owned}
 use Rattle.records.proofs.Below.{sum-turn, sum-le}
 use Rattle.records.proofs.Items.{size-small}
 use Rattle.records.proofs.Parts.{owned-parts}
-use Rattle.values.specs.Keys.{placesOf}
+use Rattle.places.specs.Keys.{placesOf}
 
 module _ (f : List ℕ) (bytes : (k : ℕ) → Fits w8 (getD f k 0)) where
   pub exprs-small : placesOf f .exprs < 21474836480

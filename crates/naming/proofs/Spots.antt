@@ -19,8 +19,8 @@ use Rattle.definition.specs.Names.{phiKeys, blockKeys}
 use Rattle.definition.proofs.Bools.{by-test}
 use Rattle.records.proofs.Ranges.{gather-map, map-gather, gather-only, shift, gather-same, map-map}
 use Rattle.defined.specs.Defined.{itemValue}
-use Rattle.values.specs.Keys.{placesOf}
-use Rattle.reads.proofs.Codes.{by-code}
+use Rattle.places.specs.Keys.{placesOf}
+use Rattle.records.proofs.Codes.{by-code}
 use Rattle.names.specs.Spots.{Spot, spot, useSpots}
 use Rattle.names.proofs.Reading.{valuesOf, use-values}
 use Rattle.naming.specs.Walk.{inputSpot, phiSpots, fieldSpots, itemSpot, itemSpots, stmtSpots, blockSpots, spots}

@@ -8,12 +8,12 @@ use native.Mathlib.Omega.{arith}
 use lib.Dec.{eqb}
 use lib.ListN.{length, set, length-set}
 use borrow.Author.Tests.{eqb-true, eqb-false, eq-eqb, ne-eqb, lt-ltb, not-false}
-use Rattle.definition.specs.Lists.{count}
+use Rattle.definition.specs.Lists.{count, at}
 use Rattle.definition.specs.Values.{Value, eqv, RSP}
 use Rattle.definition.proofs.Bools.{by-test, both-false}
 use Rattle.definition.proofs.ListLaws.{Each, end, _▸_, count-length}
-use Rattle.values.specs.Keys.{keyOf, keyed}
-use Rattle.values.specs.Tables.{at, numberOf, numbered, table}
+use Rattle.places.specs.Keys.{keyOf, keyed}
+use Rattle.values.specs.Tables.{numberOf, numbered, table}
 use Rattle.values.proofs.Tables.{key-not-0, decode, eqv-keys, same-numbered, numbered-below, table-length, table-read, Names}
 use Rattle.names.specs.Codes.{coded, Coding, coding, meetCode, codeKey, codeKeys}
 use Rattle.names.specs.Spots.{Spot, Known, State, known, noted, met, named}

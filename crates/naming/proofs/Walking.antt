@@ -5,7 +5,7 @@ use mathlib.Core.List.{List, _∷_, _++_, map}
 use Prim.Native.Nat.{ℕ, _+_, _-_}
 use native.Mathlib.Omega.{arith}
 use borrow.Author.Tests.{ne-eqb}
-use Rattle.definition.specs.Lists.{range}
+use Rattle.definition.specs.Lists.{range, at}
 use Rattle.definition.specs.Contents.{phiWord, inputAt, exprWord}
 use Rattle.definition.specs.Owners.{exprItems, valueItems, phiInputs, firstInput, firstItem}
 use Rattle.definition.specs.Values.{Value, value}
@@ -16,10 +16,9 @@ use Rattle.defined.specs.declared.value.Value.{Value as Value′}
 use Rattle.defined.specs.declared.value.Defined.{Defined}
 use Rattle.defined.specs.declared.value.Defined.the-variants.{Nothing, One}
 use Rattle.defined.specs.Defined.{valueOf, listOf, itemValue}
-use Rattle.values.specs.declared.places.Places.{Places}
-use Rattle.values.specs.Keys.{placesOf}
-use Rattle.values.specs.Tables.{at}
-use Rattle.reads.specs.Uses.{useValue}
+use Rattle.places.specs.declared.Places.{Places}
+use Rattle.places.specs.Keys.{placesOf}
+use Rattle.uses.specs.Uses.{useValue}
 use Rattle.names.specs.Spots.{Spot, Known, State, spot, named, useSpot, useSpots}
 use Rattle.naming.specs.declared.runs.Run.{Run}
 use Rattle.naming.specs.declared.runs.Run.the-variants.{Inputs, Items, Uses}

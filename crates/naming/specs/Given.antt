@@ -11,10 +11,10 @@ use Rattle.definition.specs.Shape.{owned}
 use Rattle.definition.specs.Values.{Value}
 use Rattle.definition.specs.Read.{read}
 use Rattle.definition.specs.Inline.{readsOf, inline, inPlace}
-use Rattle.values.specs.declared.places.Places.{Places}
-use Rattle.values.specs.Keys.{placesOf}
+use Rattle.places.specs.declared.Places.{Places}
+use Rattle.places.specs.Keys.{placesOf}
 use Rattle.values.specs.Tables.{table}
-use Rattle.reads.specs.Orders.{Ordered}
+use Rattle.uses.specs.Orders.{Ordered}
 use Rattle.names.specs.Spots.{Spot, Known, state}
 use Rattle.names.specs.Given.{entryTable, rootTable, nameTable}
 use Rattle.naming.specs.declared.position.Walk.{Walk}

@@ -5,15 +5,14 @@ use Prim.Native.Nat.{ℕ, zero, suc, _+_, _*_}
 use lib.Dec.{eqb}
 use lib.ListN.{set}
 use Rattle.definition.specs.Edition.{blocks}
-use Rattle.definition.specs.Lists.{gather, range}
+use Rattle.definition.specs.Lists.{gather, range, at}
 use Rattle.definition.specs.Contents.{size, phiWord, inputAt}
 use Rattle.definition.specs.Owners.{exprItems, valueItems, blockPhis, blockStmts, phiInputs, firstPhi, firstStmt, firstInput, firstItem}
 use Rattle.definition.specs.Values.{value, RSP}
 use Rattle.definition.specs.Meaning.{phiValue, assigned, callReturns}
 use Rattle.definition.specs.Read.{marked}
 use Rattle.defined.specs.Defined.{itemValue}
-use Rattle.values.specs.Keys.{placesOf}
-use Rattle.values.specs.Tables.{at}
+use Rattle.places.specs.Keys.{placesOf}
 use Rattle.names.specs.Spots.{Spot, spot, Known, State, named, useSpot, useSpots}
 use Rattle.naming.specs.declared.runs.Run.{Run}
 use Rattle.naming.specs.declared.runs.Run.the-variants.{Inputs, Items, Uses}

@@ -7,13 +7,13 @@ mod walk;
 
 use crate::walk::name_blocks;
 use names::entry::params;
-use values::read::at_u32;
-use values::read::put_u32;
+use slices::at_u32;
+use slices::put_u32;
 use zeros::clear_words;
 ghost use mathlib.Core.Path.{_≡_};
 ghost use Prim.Native.Nat.{_<_};
 ghost use lib.ListN.{length, replicate};
-ghost use Rattle.reads.specs.Orders.{Ordered};
+ghost use Rattle.uses.specs.Orders.{Ordered};
 ghost use Rattle.naming.specs.Walk.{paramsSeen};
 ghost use Rattle.names.specs.Given.{Numbered};
 ghost use Rattle.naming.specs.Given.{NamesAll};

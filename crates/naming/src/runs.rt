@@ -2,18 +2,17 @@
 use defined::value::Value;
 use defined::value::item_value;
 use names::key::name_key;
+use places::Places;
 use records::contents::expr_word;
 use records::contents::input_at;
 use records::contents::phi_word;
-use values::places::Places;
-use values::read::at_u32;
+use slices::at_u32;
 ghost use mathlib.Core.Path.{_≡_};
 ghost use mathlib.Core.List.{map};
 ghost use Prim.Native.Nat.{_-_};
-ghost use Rattle.definition.specs.Lists.{range};
+ghost use Rattle.definition.specs.Lists.{range, at};
 ghost use Rattle.defined.specs.Defined.{valueOf};
-ghost use Rattle.values.specs.Keys.{placesOf};
-ghost use Rattle.values.specs.Tables.{at};
+ghost use Rattle.places.specs.Keys.{placesOf};
 ghost use Rattle.names.specs.Spots.{spot, known, state};
 ghost use Rattle.naming.specs.Walk.{walked, runSpot};
 

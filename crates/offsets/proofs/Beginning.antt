@@ -11,11 +11,12 @@ use lib.Seq.{set-out, drop-cons}
 use borrow.Author.Tests.{eqb-false, eq-eqb, ne-eqb, not-true}
 use Rattle.definition.specs.Values.{Value, value, eqv, RSP}
 use Rattle.definition.specs.Offsets.{half, Known, look}
+use Rattle.definition.specs.Lists.{at}
 use Rattle.definition.proofs.Bools.{is-false}
 use Rattle.definition.proofs.Equal.{eqv-true}
-use Rattle.values.specs.declared.places.Places.{Places}
-use Rattle.values.specs.Keys.{keyOf, valueOf, keyed}
-use Rattle.values.specs.Tables.{at, firstOf, numberOf, numbered, entry, tabled, table}
+use Rattle.places.specs.declared.Places.{Places}
+use Rattle.places.specs.Keys.{keyOf, valueOf, keyed}
+use Rattle.values.specs.Tables.{firstOf, numberOf, numbered, entry, tabled, table}
 use Rattle.values.proofs.Ranges.{at-below}
 use Rattle.values.proofs.Placed.{keyed-length}
 use Rattle.sums.specs.Ground.{Ground}

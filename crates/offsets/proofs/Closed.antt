@@ -9,9 +9,9 @@ use Rattle.definition.specs.Contents.{size}
 use Rattle.definition.specs.Read.{read}
 use Rattle.definition.specs.Offsets.{Known, look, Def, round, rounds, closure, offsets}
 use Rattle.values.specs.Tables.{table}
-use Rattle.offsets.specs.Defs.{turnOf, mine, defsBelow}
-use Rattle.offsets.specs.Ran.{zeros, Ran}
-use Rattle.offsets.proofs.Closing.{rounds-last, stopped}
+use Rattle.rounds.specs.Defs.{turnOf, mine, defsBelow}
+use Rattle.rounds.specs.Ran.{zeros, Ran}
+use Rattle.rounds.proofs.Closing.{rounds-last, stopped}
 use Rattle.offsets.proofs.Beginning.{entered}
 
 -- what the table is after some rounds over ds from k on

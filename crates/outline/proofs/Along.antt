@@ -5,7 +5,8 @@ use mathlib.Core.List.{List}
 use Prim.Native.Nat.{ℕ, suc, _+_, _-_, _≤_, _<_}
 use native.Mathlib.Omega.{arith}
 use native.Mathlib.Numerals.{add-one}
-use Rattle.outline.specs.Tests.{at, along, someRow}
+use Rattle.definition.specs.Lists.{at}
+use Rattle.outline.specs.Tests.{along, someRow}
 
 -- what is left of n from j on: one more than from j + 1 on, and nothing at the end
 module _ {A : Type 0} (f : ℕ → A) (j n : ℕ) where

@@ -9,9 +9,10 @@ use borrow.Author.Tests.{eq-eqb, ne-eqb, lt-ltb, le-ltb}
 use lib.Dec.{ltb}
 use lib.ListN.{length, set}
 use lib.Seq.{set-out}
+use Rattle.definition.specs.Lists.{at}
 use Rattle.definition.proofs.Runs.{loop-start}
 use Rattle.outline.specs.Rows.{kindOf, nameOf}
-use Rattle.outline.specs.Tests.{at, isGoto}
+use Rattle.outline.specs.Tests.{isGoto}
 use Rattle.outline.specs.Spans.{lowOf, highOf, widened, noteRow, noteFrom, spansOf, outside, aimedOut}
 use Rattle.outline.specs.Forming.{nought, changedIn}
 use Rattle.outline.proofs.Along.{left-turn, left-end}

@@ -5,15 +5,12 @@ use mathlib.Core.List.{List}
 use Prim.Native.Nat.{ℕ}
 use lib.ListN.{length}
 use Rattle.outline.specs.Rows.{kindOf, indentOf, nameOf}
-use Rattle.outline.specs.Tests.{at, isGoto, verdict, backVerdict, tooDeep}
+use Rattle.outline.specs.Tests.{isGoto, verdict, backVerdict, tooDeep}
 use Rattle.outline.specs.Spans.{widened, noteRow, noteFrom, spansOf, outside, aimedOut, reachedIn}
 use Rattle.outline.specs.Forming.{raised, turned, nought, changedIn, inserted, deepIn}
 
 -- ---- numbers
 module _ (r s : ℕ) where
-  pub row-at : (R : List ℕ) (i : ℕ) → r ≡ at R i → s ≡ at R i → r ≡ s
-  row-at R i p q = p ∙ sym q
-
   pub kind-of : (w : ℕ) → r ≡ kindOf w → s ≡ kindOf w → r ≡ s
   kind-of w p q = p ∙ sym q
 

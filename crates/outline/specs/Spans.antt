@@ -4,8 +4,9 @@ use mathlib.Core.List.{List}
 use Prim.Native.Nat.{ℕ, zero, suc, _+_, _*_, _-_, _/_, _%_}
 use lib.Dec.{eqb, ltb}
 use lib.ListN.{set, replicate}
+use Rattle.definition.specs.Lists.{at}
 use Rattle.outline.specs.Rows.{nameOf}
-use Rattle.outline.specs.Tests.{at, isLabel, isGoto, someRow}
+use Rattle.outline.specs.Tests.{isLabel, isGoto, someRow}
 
 -- the lowest row, and 1 + the highest
 unfoldable pub lowOf : ℕ → ℕ

@@ -3,12 +3,8 @@ use mathlib.Core.Bool.{Bool, false, not, cond, _&&_, _||_}
 use mathlib.Core.List.{List}
 use Prim.Native.Nat.{ℕ, zero, suc}
 use lib.Dec.{eqb, ltb, leb}
-use lib.ListN.{getD}
+use Rattle.definition.specs.Lists.{at}
 use Rattle.outline.specs.Rows.{LABEL, COND, JUMP, kindOf, indentOf, nameOf}
-
--- the number at a place; 0 outside
-unfoldable pub at : List ℕ → ℕ → ℕ
-at l i = getD l i 0
 
 -- a label; a conditional jump; any goto
 unfoldable pub isLabel : ℕ → Bool

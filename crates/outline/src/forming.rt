@@ -1,8 +1,8 @@
 // What forming a region does to the rows: lines raised, a closing brace put in.
 use crate::rows::indent_of;
 use crate::rows::kind_of;
-use crate::rows::row_at;
 use crate::rows::too_deep;
+use slices::at_u64;
 ghost use mathlib.Core.Path.{_≡_};
 ghost use Prim.Native.Nat.{_≤_, _<_};
 ghost use lib.ListN.{length};
@@ -72,7 +72,7 @@ pub fn deep_in(rows: &[u64], i: usize, j: usize) -> bool
 {
     let mut k = i;
     while k < j {
-        if too_deep(row_at(rows, k)) {
+        if too_deep(at_u64(rows, k)) {
             return true;
         }
         k += 1;

@@ -1,7 +1,7 @@
 // A row's parts, and the tests that the passes make of one row.
 ghost use mathlib.Core.Path.{_≡_};
 ghost use Rattle.outline.specs.Rows.{kindOf, indentOf, nameOf};
-ghost use Rattle.outline.specs.Tests.{at, isGoto, verdict, backVerdict, tooDeep};
+ghost use Rattle.outline.specs.Tests.{isGoto, verdict, backVerdict, tooDeep};
 
 // The kinds of rows that the passes look for.
 pub const LABEL: u64 = 1;
@@ -9,16 +9,6 @@ pub const LABEL: u64 = 1;
 pub const COND: u64 = 2;
 
 pub const JUMP: u64 = 3;
-
-// The row at place i; 0 outside.
-pub fn row_at(rows: &[u64], i: usize) -> u64
-    ensures { λ r. ⌜ r ≡ at (now (rows .entry)) i ⌝ }
-{
-    if i < rows.len() {
-        return rows[i];
-    }
-    0
-}
 
 pub fn kind_of(w: u64) -> u64
     ensures { λ r. ⌜ r ≡ kindOf w ⌝ }

@@ -4,7 +4,7 @@ use crate::rows::LABEL;
 use crate::rows::is_goto;
 use crate::rows::kind_of;
 use crate::rows::name_of;
-use crate::rows::row_at;
+use slices::at_u64;
 ghost use mathlib.Core.Path.{_≡_};
 ghost use lib.ListN.{length};
 ghost use Rattle.outline.specs.Spans.{widened, noteRow, noteFrom, spansOf, outside, aimedOut, reachedIn};
@@ -40,7 +40,7 @@ fn note_rows(rows: &[u64], spans: &mut [u64], n: usize)
 {
     let mut i = 0;
     while i < n {
-        note_row(spans, row_at(rows, i), i);
+        note_row(spans, at_u64(rows, i), i);
         i += 1;
     }
 }
@@ -74,7 +74,7 @@ pub fn aimed_out(spans: &[u64], a: usize, b: usize, w: u64) -> bool
     if kind_of(w) != LABEL {
         return false;
     }
-    is_outside(row_at(spans, name_of(w) as usize), a, b)
+    is_outside(at_u64(spans, name_of(w) as usize), a, b)
 }
 
 // Whether a row below a, or from b on, aims at a label from row i up to j.
@@ -83,7 +83,7 @@ pub fn reached(rows: &[u64], spans: &[u64], i: usize, j: usize, a: usize, b: usi
 {
     let mut k = i;
     while k < j {
-        if aimed_out(spans, a, b, row_at(rows, k)) {
+        if aimed_out(spans, a, b, at_u64(rows, k)) {
             return true;
         }
         k += 1;

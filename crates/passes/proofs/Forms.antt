@@ -3,8 +3,8 @@ use mathlib.Core.Path.{_≡_, ap, ap₂, _∙_}
 use mathlib.Core.List.{List}
 use Prim.Native.Nat.{ℕ, _+_, _*_}
 use lib.ListN.{set}
+use Rattle.definition.specs.Lists.{at}
 use Rattle.outline.specs.Rows.{indentOf}
-use Rattle.outline.specs.Tests.{at}
 use Rattle.outline.specs.Forming.{raised, turned, changedIn, inserted}
 use Rattle.passes.specs.Regions.{opened, headed, whiled, closeRow, formedIf, formedDo}
 

@@ -9,11 +9,10 @@ use native.Mathlib.Numerals.{add-one}
 use native.Mathlib.Decide.{decLe}
 use lib.ListN.{length, getD, take, drop, set, replicate, length-set, length-take, length-drop, take-append-drop, drop-of-length-le}
 use lib.Seq.{take-all, take-length, drop-length, take-at, drop-at, drop-drop, drop-cons, drop-set-lt, take-suc-set, append-snoc, length-take-le, drop-append-add}
-use Rattle.definition.specs.Lists.{only}
+use Rattle.definition.specs.Lists.{only, at}
 use Rattle.definition.proofs.ListLaws.{total-only, total-length}
 use Rattle.definition.proofs.Runs.{loop-start}
 use Rattle.outline.specs.Rows.{kindOf}
-use Rattle.outline.specs.Tests.{at}
 use Rattle.outline.specs.Spans.{spansOf, aimedOut}
 use Rattle.outline.specs.Forming.{nought, changedIn}
 use Rattle.outline.proofs.Along.{left-turn, left-end}

@@ -7,8 +7,9 @@ use Prim.Native.Nat.{ℕ, zero, suc, _+_, _-_, _≤_, _<_}
 use native.Mathlib.Omega.{arith}
 use borrow.Author.Tests.{eq-eqb, ne-eqb, eqb-true}
 use lib.Dec.{eqb, lit≤}
+use Rattle.definition.specs.Lists.{at}
 use Rattle.outline.specs.Rows.{kindOf, indentOf, nameOf}
-use Rattle.outline.specs.Tests.{at, isLabel, isCond, labels, backs, stops, verdict, backVerdict, along}
+use Rattle.outline.specs.Tests.{isLabel, isCond, labels, backs, stops, verdict, backVerdict, along}
 use Rattle.outline.specs.Spans.{outside, reachedIn}
 use Rattle.outline.proofs.Verdicts.{label-is, label-not, cond-is, cond-not}
 use Rattle.outline.proofs.Along.{along-turn, along-end}

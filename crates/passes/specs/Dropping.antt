@@ -3,8 +3,8 @@ use mathlib.Core.Bool.{Bool, not, cond, _||_}
 use mathlib.Core.List.{List, _++_}
 use Prim.Native.Nat.{ℕ, zero, suc, _+_, _-_}
 use lib.ListN.{length, take, drop, set, replicate}
-use Rattle.definition.specs.Lists.{only}
-use Rattle.outline.specs.Tests.{at, isLabel}
+use Rattle.definition.specs.Lists.{only, at}
+use Rattle.outline.specs.Tests.{isLabel}
 use Rattle.outline.specs.Spans.{spansOf, aimedOut}
 
 -- no label, or one that is aimed at from some row

@@ -4,8 +4,9 @@ use mathlib.Core.List.{List}
 use Prim.Native.Nat.{ℕ, zero, suc, _+_, _*_, _-_}
 use lib.Dec.{eqb}
 use lib.ListN.{set}
+use Rattle.definition.specs.Lists.{at}
 use Rattle.outline.specs.Rows.{CLOSE, indentOf, nameOf}
-use Rattle.outline.specs.Tests.{at, isCond, isLabel, verdict, backVerdict, along}
+use Rattle.outline.specs.Tests.{isCond, isLabel, verdict, backVerdict, along}
 use Rattle.outline.specs.Spans.{outside, reachedIn}
 use Rattle.outline.specs.Forming.{raised, turned, changedIn, inserted}
 

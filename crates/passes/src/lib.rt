@@ -1,5 +1,2 @@
-// The structuring passes on rows of numbers: no text moves while regions are formed.
-pub mod dropping;
-pub mod ifs;
-pub mod loops;
+// The structuring passes on rows of numbers: no text moves while regions are formed. What each answers; specs/ says what it is to do.
 pub mod sweeps;

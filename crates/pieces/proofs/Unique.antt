@@ -1,5 +1,5 @@
 -- Each contract of this crate determines the answer and what is left in the lent buffers, so no second result meets it. All that put a piece have one
--- contract, which differs in the piece alone; part_behind and write have a leaf's, of which digits says it.
+-- contract, which differs in the piece alone; part_behind and write have a leaf's, of which `leaf` says it.
 use mathlib.Core.Path.{_≡_, sym, ap, _∙_}
 use mathlib.Core.List.{List}
 use Prim.Native.Nat.{ℕ}

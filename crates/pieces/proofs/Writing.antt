@@ -10,11 +10,11 @@ use borrow.Rule.Slice.PartMut.{putMid, midOf, put-same}
 use lib.ListN.{length, take, drop}
 use lib.Seq.{drop-drop}
 use Rattle.definition.specs.Tokens.{tok}
-use Rattle.digits.specs.declared.leaf.Wrote.{Wrote}
-use Rattle.digits.specs.declared.leaf.Wrote.the-variants.{Bytes, NoRoom}
-use Rattle.digits.specs.Leaf.{Leaf}
-use Rattle.digits.proofs.Rest.{rest-is, rest-back, rest-length}
-use Rattle.digits.proofs.Leaves.{leaf-none, leaf-bytes}
+use Rattle.leaf.specs.declared.Wrote.{Wrote}
+use Rattle.leaf.specs.declared.Wrote.the-variants.{Bytes, NoRoom}
+use Rattle.leaf.specs.Leaf.{Leaf}
+use Rattle.leaf.proofs.Rest.{rest-is, rest-back, rest-length}
+use Rattle.leaf.proofs.Leaves.{leaf-none, leaf-bytes}
 use Rattle.room.specs.declared.out.Out.{Out}
 use Rattle.room.specs.Room.{roomOf, textMost, stopped, paste, isReady, fits, placed, emit}
 use Rattle.room.specs.Placing.{withToken, afterToken, endOf, Placeable}

@@ -1,10 +1,10 @@
 // A writer of a part of the file behind a front.
-use digits::leaf::Wrote;
-use digits::leaf::copy;
-use digits::leaf::copy_part;
+use leaf::Wrote;
+use leaf::copy;
+use leaf::copy_part;
 ghost use mathlib.Core.List.{_++_};
 ghost use Rattle.definition.specs.Words.{part};
-ghost use Rattle.digits.specs.Leaf.{Leaf};
+ghost use Rattle.leaf.specs.Leaf.{Leaf};
 
 // Writes n bytes of f from `at` on behind a front. The part goes first, so that a refusal touches nothing.
 pub fn part_behind(dst: &mut [u8], front: &[u8], f: &[u8], at: usize, n: usize) -> Wrote

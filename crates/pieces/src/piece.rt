@@ -1,15 +1,15 @@
 // What a piece spells, one writer for all of them, and the one way into the room: the writer is lent only the unwritten rest of the text.
 use crate::fronted::part_behind;
-use digits::leaf::Wrote;
-use digits::leaf::copy;
-use digits::leaf::copy_part;
-use digits::numbers::Radix;
-use digits::numbers::behind;
-use digits::numbers::label;
-use digits::numbers::num;
-use digits::numbers::outward;
-use digits::numbers::pointer;
-use digits::numbers::slot;
+use digits::Radix;
+use digits::behind;
+use digits::label;
+use digits::num;
+use digits::outward;
+use digits::pointer;
+use digits::slot;
+use leaf::Wrote;
+use leaf::copy;
+use leaf::copy_part;
 use room::out::Out;
 use room::place::ready;
 use room::place::stop;
@@ -19,7 +19,7 @@ use text::names::name_text;
 use text::registers::reg_name;
 ghost use mathlib.Core.Path.{_≡_};
 ghost use Rattle.definition.specs.Tokens.{tok};
-ghost use Rattle.digits.specs.Leaf.{Leaf};
+ghost use Rattle.leaf.specs.Leaf.{Leaf};
 ghost use Rattle.room.specs.Room.{roomOf, emit};
 ghost use Rattle.pieces.specs.Spelled.{made, spelled};
 

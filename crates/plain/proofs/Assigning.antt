@@ -26,10 +26,11 @@ use Rattle.definition.specs.Tokens.{tok}
 use Rattle.definition.specs.Render.{variable}
 use Rattle.definition.specs.Lower.{isStackLoad, restores}
 use Rattle.definition.specs.Blocks.{readRoots, lowering}
+use Rattle.definition.specs.Lists.{at}
 use Rattle.reads.proofs.ReadAtAll.{bit-not}
-use Rattle.values.specs.declared.places.Places.{Places}
-use Rattle.values.specs.Keys.{stmtKey, placesOf}
-use Rattle.values.specs.Tables.{at, numbered, table}
+use Rattle.places.specs.declared.Places.{Places}
+use Rattle.places.specs.Keys.{stmtKey, placesOf}
+use Rattle.values.specs.Tables.{numbered, table}
 use Rattle.values.proofs.Placed.{at-stmt, keyed-length, stmt-here}
 use Rattle.values.proofs.Tables.{table-read, Names}
 use Rattle.names.specs.Codes.{nameText, nameCode}

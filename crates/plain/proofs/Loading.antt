@@ -14,7 +14,7 @@ use Rattle.definition.specs.Read.{treeAt, tree, trees, allTrees, read}
 use Rattle.definition.specs.Offsets.{Known, offsets, stackOff}
 use Rattle.definition.specs.Lower.{isStackLoad}
 use Rattle.records.proofs.Trees.{tree-lower, tree-past}
-use Rattle.reads.proofs.Codes.{by-code}
+use Rattle.records.proofs.Codes.{by-code}
 use Rattle.lowering.specs.Lowered.{loweringOf}
 use Rattle.lowering.proofs.Gen.{gen-offsets}
 

@@ -10,10 +10,10 @@ use mir.Val.{Fits}
 use borrow.Author.Tests.{eq-eqb, ne-eqb}
 use Rattle.definition.specs.Contents.{itemWord}
 use Rattle.definition.specs.Owners.{exprItems, valueItems, firstItem}
+use Rattle.definition.specs.Lists.{at}
 use Rattle.records.proofs.Items.{size-small}
-use Rattle.values.specs.declared.places.Places.{Places}
-use Rattle.values.specs.Keys.{placesOf}
-use Rattle.values.specs.Tables.{at}
+use Rattle.places.specs.declared.Places.{Places}
+use Rattle.places.specs.Keys.{placesOf}
 use Rattle.reads.specs.Counts.{readBy}
 use Rattle.plain.specs.declared.sets.Named.{Named}
 use Rattle.plain.specs.declared.sets.Sets.{Sets}

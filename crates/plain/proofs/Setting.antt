@@ -11,7 +11,7 @@ use mir.Syntax.{w8}
 use mir.Val.{Fits}
 use Rattle.words.proofs.Laws.{word-small}
 use Rattle.definition.specs.Edition.{Edition, statements}
-use Rattle.definition.specs.Lists.{count, gather, range}
+use Rattle.definition.specs.Lists.{count, gather, range, at}
 use Rattle.definition.specs.Contents.{size, itemWord, textAt}
 use Rattle.definition.specs.Owners.{stmtField, exprItems, valueItems, firstItem}
 use Rattle.definition.specs.Values.{Value, value, eqv, within}
@@ -25,9 +25,9 @@ use Rattle.definition.specs.Lower.{Lowering, isRead, nameList, asm}
 use Rattle.definition.specs.Blocks.{lowering}
 use Rattle.definition.proofs.Bools.{by-test}
 use Rattle.records.proofs.Ranges.{gather-map}
-use Rattle.values.specs.declared.places.Places.{Places}
-use Rattle.values.specs.Keys.{itemKey, placesOf}
-use Rattle.values.specs.Tables.{at, table}
+use Rattle.places.specs.declared.Places.{Places}
+use Rattle.places.specs.Keys.{itemKey, placesOf}
+use Rattle.values.specs.Tables.{table}
 use Rattle.values.proofs.Placed.{at-item, keyed-length, item-here}
 use Rattle.values.proofs.Tables.{table-read, Names}
 use Rattle.reads.specs.Counts.{readBy, LiveReads, PhiReads}

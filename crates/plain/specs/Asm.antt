@@ -5,7 +5,7 @@ use Prim.Native.Nat.{ℕ, zero, suc, _+_}
 use lib.Dec.{eqb}
 use Rattle.definition.specs.Edition.{Edition}
 use Rattle.definition.specs.Texts.{txt}
-use Rattle.definition.specs.Lists.{gather}
+use Rattle.definition.specs.Lists.{gather, at}
 use Rattle.definition.specs.Contents.{itemWord, textAt}
 use Rattle.definition.specs.Owners.{stmtField}
 use Rattle.definition.specs.Values.{RSP}
@@ -14,7 +14,6 @@ use Rattle.definition.specs.Registers.{regName}
 use Rattle.definition.specs.Lookup.{nameOr}
 use Rattle.definition.specs.Tokens.{Token, textual, register, keyword, punct}
 use Rattle.definition.specs.Lower.{nameList, asm}
-use Rattle.values.specs.Tables.{at}
 use Rattle.reads.specs.Counts.{readBy}
 use Rattle.names.specs.Codes.{nameText}
 use Rattle.lowering.specs.Lowered.{loweringOf}

@@ -5,7 +5,7 @@ use Prim.Native.Nat.{ℕ}
 use Rattle.definition.specs.Edition.{Edition}
 use Rattle.definition.specs.Read.{read as function}
 use Rattle.definition.specs.Classes.{find, classes}
-use Rattle.values.specs.Keys.{keyOf, keyed}
+use Rattle.places.specs.Keys.{keyOf, keyed}
 use Rattle.values.specs.Tables.{numberOf, table}
 use Rattle.marks.specs.Reading.{ReadRoots}
 

@@ -2,14 +2,14 @@
 use lowering::kinds::PUNCT;
 use lowering::list::put_expr;
 use pieces::put::put;
+use places::Places;
 use room::out::Out;
-use values::places::Places;
-use values::read::at_u32;
+use slices::at_u32;
 ghost use mathlib.Core.Path.{_≡_};
 ghost use Prim.Native.Nat.{_+_, _<_};
 ghost use Rattle.definition.specs.Edition.{Edition};
 ghost use Rattle.definition.specs.Contents.{text as textOf};
-ghost use Rattle.values.specs.Tables.{at};
+ghost use Rattle.definition.specs.Lists.{at};
 ghost use Rattle.room.specs.Room.{roomOf, emitAll, seen};
 ghost use Rattle.render.specs.Told.{Told};
 ghost use Rattle.plain.specs.Pieces.{becomes};

@@ -1,18 +1,18 @@
 // Which variables an Other sets that somebody reads.
 use crate::parts::number_of;
 use defined::value::RSP;
-use reads::counts::is_read;
+use places::Places;
+use reads::is_read;
 use records::contents::item_word;
 use records::owners::expr_items;
 use records::owners::value_items;
-use values::places::Places;
-use values::read::at_u32;
+use slices::at_u32;
 ghost use mathlib.Core.Path.{_≡_};
 ghost use Prim.Native.Nat.{_+_, _-_, _<_};
 ghost use Rattle.definition.specs.Edition.{statements};
 ghost use Rattle.definition.specs.Contents.{size};
 ghost use Rattle.definition.specs.Owners.{exprItems, valueItems, firstItem};
-ghost use Rattle.values.specs.Keys.{placesOf};
+ghost use Rattle.places.specs.Keys.{placesOf};
 ghost use Rattle.sums.specs.Ground.{Ground};
 ghost use Rattle.plain.specs.declared.sets.Sets.the-variants.{Nothing};
 ghost use Rattle.plain.specs.Asm.{withName, tables, codeAt, setsFrom};

@@ -1,6 +1,6 @@
 // A file's listing on standard output, as document 01 says: a header, then each line's address, indent and text; or `refused` and the number.
-use digits::leaf::Wrote;
-use digits::numbers::hex_upper;
+use digits::hex_upper;
+use leaf::Wrote;
 use lent::answer::Answer;
 use libc::STDOUT_FILENO;
 use lister::sorkhelaw_list;

@@ -2,8 +2,8 @@
 use mathlib.Core.Path.{_≡_, ap, subst, _∙_}
 use mathlib.Core.List.{List}
 use Prim.Native.Nat.{ℕ}
-use Rattle.digits.specs.declared.leaf.Wrote.{Wrote}
-use Rattle.digits.specs.Leaf.{Leaf}
+use Rattle.leaf.specs.declared.Wrote.{Wrote}
+use Rattle.leaf.specs.Leaf.{Leaf}
 use Rattle.pieces.specs.declared.piece.Piece.{Piece}
 use Rattle.pieces.specs.Spelled.{spelled}
 use Rattle.probe.specs.Counted.{countOf, Counted}

@@ -2,9 +2,9 @@
 use mathlib.Core.Path.{_≡_}
 use mathlib.Core.List.{List}
 use Prim.Native.Nat.{ℕ}
-use Rattle.digits.specs.declared.leaf.Wrote.{Wrote}
-use Rattle.digits.specs.declared.leaf.Wrote.the-variants.{Bytes, NoRoom}
-use Rattle.digits.specs.Leaf.{answer, written}
+use Rattle.leaf.specs.declared.Wrote.{Wrote}
+use Rattle.leaf.specs.declared.Wrote.the-variants.{Bytes, NoRoom}
+use Rattle.leaf.specs.Leaf.{answer, written}
 
 unfoldable pub countOf : Wrote → ℕ
 countOf (Bytes n) = n

@@ -1,7 +1,7 @@
 // What a comparison with the Rust runs piece by piece: the writer of pieces and the structuring passes, exported.
 pub mod structuring;
 
-use digits::leaf::Wrote;
+use leaf::Wrote;
 use pieces::piece::Global;
 use pieces::piece::Made;
 use pieces::piece::Named;

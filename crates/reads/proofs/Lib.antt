@@ -1,14 +1,8 @@
-pub mod Codes
-pub mod Trees
-pub mod Filling
-pub mod Orders
 pub mod Visits
 pub mod Named
 pub mod Nodes
 pub mod Live
-pub mod Readers
+pub mod LastReader
 pub mod Phis
 pub mod ReadAtAll
-pub mod Loading
-pub mod Forest
 pub mod Unique

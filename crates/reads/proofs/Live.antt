@@ -8,7 +8,7 @@ use lib.ListN.{length, getD, replicate, length-map}
 use mir.Syntax.{w8, w32}
 use mir.Val.{Fits}
 use Rattle.definition.specs.Edition.{Edition, statements}
-use Rattle.definition.specs.Lists.{only, count, gather, range}
+use Rattle.definition.specs.Lists.{only, count, gather, range, at}
 use Rattle.definition.specs.Contents.{size}
 use Rattle.definition.specs.Shape.{owned}
 use Rattle.definition.specs.Values.{eqv}
@@ -18,14 +18,14 @@ use Rattle.definition.specs.Inline.{live, reads}
 use Rattle.records.proofs.Ranges.{gather-only, map-gather, gather-same}
 use Rattle.records.proofs.Below.{sum-mono}
 use Rattle.records.proofs.Parts.{stmts-are}
-use Rattle.values.specs.Keys.{placesOf}
-use Rattle.values.specs.Tables.{at, numbered, table}
+use Rattle.places.specs.Keys.{placesOf}
+use Rattle.values.specs.Tables.{numbered, table}
 use Rattle.values.proofs.Ranges.{gather-length}
 use Rattle.values.proofs.Placed.{keyed-length}
 use Rattle.values.proofs.Tables.{table-same, zeros-are}
-use Rattle.reads.specs.Uses.{stmtUses, useStart, useValue}
+use Rattle.uses.specs.Uses.{stmtUses, useStart, useValue}
 use Rattle.reads.specs.Counts.{raised, visit, slots, liveUses, Numbers, Runs}
-use Rattle.reads.proofs.Trees.{uses-are}
+use Rattle.uses.proofs.Trees.{uses-are}
 use Rattle.reads.proofs.Nodes.{each-gather, live-nodes}
 use Rattle.reads.proofs.Visits.{liveFrom, start-at}
 use Rattle.reads.proofs.Named.{uses-named, raise-all}

@@ -9,7 +9,7 @@ use lib.ListN.{length, getD, set}
 use mir.Syntax.{w8}
 use mir.Val.{Fits}
 use borrow.Author.Tests.{lt-ltb}
-use Rattle.definition.specs.Lists.{count, any}
+use Rattle.definition.specs.Lists.{count, any, at}
 use Rattle.definition.specs.Contents.{place}
 use Rattle.definition.specs.Shape.{owned}
 use Rattle.definition.specs.Values.{Value, eqv, within}
@@ -17,13 +17,13 @@ use Rattle.definition.proofs.Bools.{by-test}
 use Rattle.definition.proofs.ListLaws.{Each, end, _▸_}
 use Rattle.words.proofs.Laws.{word-small}
 use Rattle.definition.proofs.Equal.{eqv-true}
-use Rattle.values.specs.Keys.{exprKey, placesOf}
-use Rattle.values.specs.Tables.{at, numbered, table}
+use Rattle.places.specs.Keys.{exprKey, placesOf}
+use Rattle.values.specs.Tables.{numbered, table}
 use Rattle.values.proofs.Tables.{table-read, table-write, table-same, eqv-swap, Names}
 use Rattle.values.proofs.Placed.{at-expr, expr-here, keyed-length}
-use Rattle.reads.specs.Uses.{useValue}
+use Rattle.uses.specs.Uses.{useValue}
 use Rattle.reads.specs.Counts.{raised, placed, visit, slots}
-use Rattle.reads.proofs.Trees.{Both, none-left, and-then}
+use Rattle.uses.proofs.Trees.{Both, none-left, and-then}
 use Rattle.reads.proofs.Nodes.{IsUse}
 use Rattle.reads.proofs.Visits.{place-is}
 

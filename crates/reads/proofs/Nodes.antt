@@ -14,7 +14,7 @@ use Rattle.definition.specs.References.{roots}
 use Rattle.definition.specs.Read.{marked}
 use Rattle.definition.proofs.Bools.{by-cond}
 use Rattle.definition.proofs.ListLaws.{Each, end, _▸_, each-append}
-use Rattle.reads.specs.Uses.{nodeUses, usesBelow, usesIn, stmtUses}
+use Rattle.uses.specs.Uses.{nodeUses, usesBelow, usesIn, stmtUses}
 use Rattle.reads.specs.Counts.{liveUses}
 
 -- n is a Use node of the file

@@ -8,7 +8,7 @@ use lib.ListN.{length, getD, replicate}
 use mir.Syntax.{w8}
 use mir.Val.{Fits}
 use Rattle.definition.specs.Edition.{Edition, phis, inputs}
-use Rattle.definition.specs.Lists.{gather, range}
+use Rattle.definition.specs.Lists.{gather, range, at}
 use Rattle.definition.specs.Contents.{size, place, phiWord, inputAt}
 use Rattle.definition.specs.Owners.{phiInputs, firstInput}
 use Rattle.definition.specs.Shape.{owned}
@@ -19,12 +19,12 @@ use Rattle.definition.specs.Inline.{phiReads}
 use Rattle.words.proofs.Laws.{word-small}
 use Rattle.records.proofs.Ranges.{gather-map, gather-last, gather-same, map-map}
 use Rattle.records.proofs.Parts.{owned-parts, runs, phis-are}
-use Rattle.values.specs.Keys.{inputKey, placesOf}
-use Rattle.values.specs.Tables.{at, numbered, table}
+use Rattle.places.specs.Keys.{inputKey, placesOf}
+use Rattle.values.specs.Tables.{numbered, table}
 use Rattle.values.proofs.Placed.{at-input, input-here, keyed-length}
 use Rattle.values.proofs.Tables.{zeros-are}
 use Rattle.reads.specs.Counts.{placed, visit, slots, Numbers}
-use Rattle.reads.proofs.Trees.{Both, none-left, and-then, both-append}
+use Rattle.uses.proofs.Trees.{Both, none-left, and-then, both-append}
 use Rattle.reads.proofs.Named.{StandsFor, mark-all}
 
 -- ---- lists side by side

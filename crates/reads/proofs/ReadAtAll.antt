@@ -7,14 +7,13 @@ use native.Mathlib.Omega.{arith}
 use lib.Dec.{eqb}
 use borrow.Author.Tests.{eq-eqb, ne-eqb}
 use Rattle.definition.specs.Edition.{Edition}
-use Rattle.definition.specs.Lists.{any, count}
+use Rattle.definition.specs.Lists.{any, count, at}
 use Rattle.definition.specs.Values.{Value, eqv, within}
 use Rattle.definition.specs.Read.{read}
 use Rattle.definition.specs.Inline.{reads, phiReads, readsOf}
 use Rattle.definition.specs.Lower.{isRead}
 use Rattle.definition.proofs.Bools.{by-test}
 use Rattle.definition.proofs.ListLaws.{any-count, any-none}
-use Rattle.values.specs.Tables.{at}
 use Rattle.reads.specs.Counts.{readBy}
 
 -- ---- as the code finds it

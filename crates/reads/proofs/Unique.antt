@@ -5,15 +5,7 @@ use mathlib.Core.List.{List}
 use Prim.Native.Nat.{ℕ}
 use Rattle.definition.specs.Edition.{edition1}
 use Rattle.values.specs.Tables.{table}
-use Rattle.reads.specs.Orders.{Ordered}
 use Rattle.reads.specs.Counts.{placed, visit, slots, between, lastReader, readBy, LiveReads, PhiReads}
-use Rattle.reads.specs.Loads.{Loads}
-
-pub order : (f : List ℕ) (m n : ℕ) (o p s t : List ℕ) → Ordered f m n o s → Ordered f m n p t → (o ≡ p) × (s ≡ t)
-order f m n o p s t a b = (a .nodes ∙ sym (b .nodes), a .begins ∙ sym (b .begins))
-
-pub loads : (f : List ℕ) (n : ℕ) (t u : List ℕ) → Loads f n t → Loads f n u → t ≡ u
-loads f n t u p q = p edition1 ∙ sym (q edition1)
 
 pub live-reads : (f : List ℕ) (n : ℕ) (t u : List ℕ) → LiveReads f n t → LiveReads f n u → t ≡ u
 live-reads f n t u p q = p edition1 ∙ sym (q edition1)

@@ -9,18 +9,17 @@ use mir.Syntax.{w8}
 use mir.Val.{Fits}
 use borrow.Author.Tests.{lt-ltb, le-ltb}
 use Rattle.definition.specs.Edition.{statements}
-use Rattle.definition.specs.Lists.{gather, range, sumBelow}
+use Rattle.definition.specs.Lists.{gather, range, sumBelow, at}
 use Rattle.definition.specs.Contents.{size}
 use Rattle.definition.specs.Read.{marked}
 use Rattle.definition.specs.Listing.{padded}
 use Rattle.definition.proofs.Runs.{each-turn, each-end, lists-turn, lists-end, loop-start}
 use Rattle.records.proofs.Below.{sum-turn, sum-part}
 use Rattle.records.proofs.Items.{size-small}
-use Rattle.values.specs.Keys.{placesOf}
-use Rattle.values.specs.Tables.{at}
+use Rattle.places.specs.Keys.{placesOf}
 use Rattle.values.proofs.Ranges.{at-left, at-below, map-length, gather-length, at-gather}
-use Rattle.reads.specs.Uses.{stmtUses, useOrder, useStart, useStarts}
-use Rattle.reads.specs.Orders.{Ordered}
+use Rattle.uses.specs.Uses.{stmtUses, useOrder, useStart, useStarts}
+use Rattle.uses.specs.Orders.{Ordered}
 use Rattle.reads.specs.Counts.{raised, placed, visit, slots, between, liveUses, Runs}
 
 -- the Use nodes of m live statements from i on

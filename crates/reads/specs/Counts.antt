@@ -6,16 +6,16 @@ use Prim.Native.Nat.{ℕ, zero, suc, _+_, _-_, _≤_}
 use lib.Dec.{eqb, ltb}
 use lib.ListN.{length, set, replicate}
 use Rattle.definition.specs.Edition.{Edition, statements}
-use Rattle.definition.specs.Lists.{count, range}
+use Rattle.definition.specs.Lists.{count, range, at}
 use Rattle.definition.specs.Contents.{size}
 use Rattle.definition.specs.Shape.{owned}
 use Rattle.definition.specs.Values.{Value, eqv, within}
 use Rattle.definition.specs.Read.{marked, read}
 use Rattle.definition.specs.Inline.{reads, phiReads}
 use Rattle.definition.specs.Listing.{padded}
-use Rattle.values.specs.Keys.{placesOf}
-use Rattle.values.specs.Tables.{at, numbered, table}
-use Rattle.reads.specs.Uses.{stmtUses, useOrder, useStarts, useValue}
+use Rattle.places.specs.Keys.{placesOf}
+use Rattle.values.specs.Tables.{numbered, table}
+use Rattle.uses.specs.Uses.{stmtUses, useOrder, useStarts, useValue}
 
 -- one more at place i, where the greatest u32 stays; x there
 unfoldable pub raised : List ℕ → ℕ → List ℕ

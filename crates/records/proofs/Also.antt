@@ -20,3 +20,9 @@ also-stop {a} {t} b e h = rw (← e, not-true t h)
 pub also-go : {a b t u : Bool} → t ≡ a → not t ≡ false → u ≡ b → u ≡ also a b
 unfolding also
 also-go {a} {b} {t} e h k = rw (← e, not-false t h) k
+
+pub also-four : (a b c d : Bool) → also a (also b (also c d)) ≡ (a && b && c && d)
+unfolding also
+also-four false b c d = refl
+also-four true false c d = refl
+also-four true true c d = refl

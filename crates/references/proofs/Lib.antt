@@ -1,4 +1,2 @@
-pub mod Tally
-pub mod Naming
 pub mod Sound
 pub mod Unique

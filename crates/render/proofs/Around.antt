@@ -14,9 +14,9 @@ use Rattle.definition.specs.Contents.{size, offset, text, textAt, exprWord}
 use Rattle.definition.specs.Values.{Value, value}
 use Rattle.definition.specs.Tokens.{Token, tok, punct}
 use Rattle.definition.specs.Render.{nested, through, operator}
-use Rattle.values.specs.declared.places.Places.{Places}
-use Rattle.values.specs.Keys.{valueOf, keyed}
-use Rattle.values.specs.Tables.{at}
+use Rattle.definition.specs.Lists.{at}
+use Rattle.places.specs.declared.Places.{Places}
+use Rattle.places.specs.Keys.{valueOf, keyed}
 use Rattle.sums.specs.Ground.{Ground}
 use Rattle.sums.proofs.Naming.{some-edition, expr-inside}
 use Rattle.ssa.specs.declared.node.Bin.{Bin as BinS}

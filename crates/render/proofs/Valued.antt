@@ -24,10 +24,11 @@ use Rattle.definition.specs.Lookup.{nameOr}
 use Rattle.definition.specs.Read.{read}
 use Rattle.definition.specs.Tokens.{Token, tok, register}
 use Rattle.definition.specs.Render.{variable, openedAt, useOr, addressOr, expr}
+use Rattle.definition.specs.Lists.{at}
 use Rattle.words.proofs.Laws.{word-small}
-use Rattle.values.specs.declared.places.Places.{Places}
-use Rattle.values.specs.Keys.{keyOf, valueOf, exprKey, keyed}
-use Rattle.values.specs.Tables.{at, table}
+use Rattle.places.specs.declared.Places.{Places}
+use Rattle.places.specs.Keys.{keyOf, valueOf, exprKey, keyed}
+use Rattle.values.specs.Tables.{table}
 use Rattle.values.proofs.Tables.{decode, encode, key-not-0, table-read}
 use Rattle.values.proofs.Placed.{keyed-length, at-expr}
 use Rattle.sums.specs.Ground.{Ground}

@@ -9,9 +9,10 @@ use Rattle.definition.specs.Contents.{text}
 use Rattle.definition.specs.Meaning.{definedOnce}
 use Rattle.definition.specs.Read.{read}
 use Rattle.definition.specs.Offsets.{look, offsets}
-use Rattle.values.specs.declared.places.Places.{Places}
-use Rattle.values.specs.Keys.{valueOf, keyed}
-use Rattle.values.specs.Tables.{at, table}
+use Rattle.definition.specs.Lists.{at}
+use Rattle.places.specs.declared.Places.{Places}
+use Rattle.places.specs.Keys.{valueOf, keyed}
+use Rattle.values.specs.Tables.{table}
 use Rattle.sums.specs.Ground.{Ground}
 use Rattle.inline.specs.Placing.{placeOf}
 use Rattle.names.specs.Given.{nameTable}

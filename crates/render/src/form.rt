@@ -1,4 +1,5 @@
 // What an expression is written as.
+use places::Places;
 use records::contents::expr_long;
 use records::contents::expr_word;
 use ssa::node::Bin;
@@ -10,7 +11,6 @@ use ssa::node::node_at;
 use ssa::parts::Text;
 use sums::address::stack_off;
 use text::names::is_global;
-use values::places::Places;
 ghost use mathlib.Core.Path.{_≡_};
 ghost use mathlib.Core.Bool.{_&&_};
 ghost use lib.Dec.{eqb};

@@ -65,7 +65,7 @@ pub seen-emits : (r q : Room) (ps : List Token) → seen r ≡ seen q → seen (
 unfolding seen emitAll
 seen-emits = run-seen isFull emitAll emit (λ r. refl) (λ r p ps. refl) emit-stays
 
-pub seen-end : (s u : Sheet) → seenSheet s ≡ seenSheet u → (n : ℕ) (a : Option ℕ) → seenSheet (endLine s n a) ≡ seenSheet (endLine u n a)
+seen-end : (s u : Sheet) → seenSheet s ≡ seenSheet u → (n : ℕ) (a : Option ℕ) → seenSheet (endLine s n a) ≡ seenSheet (endLine u n a)
 unfolding seenSheet
 seen-end s u same n a = by-seen (λ z. isFull (z .room)) (λ z. endLine z n a) (λ z. end-stays z n a) s u same
 

@@ -8,8 +8,8 @@ use borrow.Author.Tests.{ltb-true, leb-true, not-true, lt-ltb, le-ltb, le-leb, e
 use lib.Dec.{eqb, ltb, leb}
 use lib.ListN.{length, getD, set}
 use Rattle.definition.proofs.Bools.{both-true, or-cases, is-false, by-test}
-use Rattle.digits.specs.declared.leaf.Wrote.{Wrote}
-use Rattle.digits.specs.declared.leaf.Wrote.the-variants.{Bytes, NoRoom}
+use Rattle.leaf.specs.declared.Wrote.{Wrote}
+use Rattle.leaf.specs.declared.Wrote.the-variants.{Bytes, NoRoom}
 use Rattle.room.specs.declared.out.Out.{Out}
 use Rattle.room.specs.Room.{textMost, stopped, sound, goesOn, slotAt, isReady}
 use Rattle.room.specs.Placing.{withToken, afterToken, endOf, Placeable}

@@ -3,8 +3,8 @@ use mathlib.Core.Bool.{false}
 use mathlib.Core.List.{List}
 use Prim.Native.Nat.{ℕ, _+_, _*_, _≤_, _<_}
 use lib.ListN.{length, set}
-use Rattle.digits.specs.declared.leaf.Wrote.{Wrote}
-use Rattle.digits.specs.declared.leaf.Wrote.the-variants.{Bytes, NoRoom}
+use Rattle.leaf.specs.declared.Wrote.{Wrote}
+use Rattle.leaf.specs.declared.Wrote.the-variants.{Bytes, NoRoom}
 use Rattle.room.specs.declared.out.Out.{Out}
 use Rattle.room.specs.Room.{textMost, slotAt, stopped}
 

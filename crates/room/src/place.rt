@@ -1,6 +1,6 @@
 // A token's place: the test before its text is written, and its number set behind it.
 use crate::out::Out;
-use digits::leaf::Wrote;
+use leaf::Wrote;
 ghost use mathlib.Core.Path.{_≡_};
 ghost use mathlib.Core.Bool.{_||_};
 ghost use Prim.Native.Nat.{_≤_};

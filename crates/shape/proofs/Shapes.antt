@@ -1,180 +1,26 @@
--- The rest of check 4, over plain lists and numbers: what is owned, and the words of each record.
-use mathlib.Core.Path.{_≡_, refl, sym, ap, _∙_}
-use mathlib.Core.Bool.{Bool, true, false, not, cond, _&&_, _||_, and-assoc}
+-- The whole of check 4: its tests in order, up to the one that fails.
+use mathlib.Core.Path.{_≡_, sym, ap, _∙_}
+use mathlib.Core.Bool.{Bool, true, not, _&&_, and-assoc}
 use mathlib.Core.List.{List}
-use Prim.Native.Nat.{ℕ, _+_, _<_}
-use native.Mathlib.Omega.{arith}
-use lib.Dec.{eqb, leb}
+use Prim.Native.Nat.{ℕ, _<_}
+use lib.Dec.{leb}
 use lib.ListN.{getD}
 use mir.Syntax.{w8}
 use mir.Val.{Fits}
-use borrow.Author.Tests.{ne-eqb}
+use Rattle.definition.specs.Edition.{Edition, blocks, phis, statements, expressions}
+use Rattle.definition.specs.Lists.{allBelow}
+use Rattle.definition.specs.Words.{word}
+use Rattle.definition.specs.Contents.{contents, size}
+use Rattle.definition.specs.Owners.{firstItem}
+use Rattle.definition.specs.Shape.{adjoin, owned, blockShaped, phiShaped, stmtShaped, exprShaped, shaped, refused4}
 use Rattle.records.proofs.Also.{also}
 use Rattle.records.proofs.Items.{items-few, items-fit}
-use Rattle.definition.specs.Codes.{kAssign, kStore, kCall, kBranch, kFlags, kReturn, kOther}
-use Rattle.definition.specs.Edition.{Edition, blocks, phis, inputs, statements, lists, expressions}
-use Rattle.definition.specs.Lists.{allBelow, sumBelow}
-use Rattle.definition.specs.Words.{word}
-use Rattle.definition.specs.Contents.{contents, size, blockWord, phiWord, stmtWord, itemWord, exprWord}
-use Rattle.definition.specs.Owners.{stmtKind, stmtField, exprItems, items, firstPhi, firstStmt, firstInput, firstItem}
-use Rattle.definition.specs.Shape.{bit, absent, adjoin, owned, blockShaped, phiShaped, fieldsShaped, itemsShaped, stmtShaped, exprShaped, shaped, refused4}
-use Rattle.shape.specs.declared.layout.Parts.{Parts}
-use Rattle.shape.specs.declared.layout.Parts.the-variants.{Phis, Stmts, Inputs, Items}
-use Rattle.shape.specs.Shapes.{partsOf, optional, blankTail, tagShaped, Cut}
-
--- ---- what is owned
-pub owned-is : (f : List ℕ) (b p i s l : ℕ) (w x y z : Bool) → b ≡ size f blocks → p ≡ size f phis → i ≡ size f inputs → s ≡ size f statements → l ≡ size f lists
-    → w ≡ eqb (sumBelow b (partsOf f Phis)) p → x ≡ eqb (sumBelow b (partsOf f Stmts)) s
-    → y ≡ eqb (sumBelow p (partsOf f Inputs)) i → z ≡ eqb (sumBelow s (partsOf f Items)) l
-    → (w && x && y && z) ≡ owned f
-unfolding owned partsOf firstPhi firstStmt firstInput firstItem
-owned-is f b p i s l w x y z hb hp hi hs hl hw hx hy hz = rw (hw, hx, hy, hz, hb, hp, hi, hs, hl)
-
--- the parts by the variant that a match found
-pub parts-is : (f : List ℕ) (p q : Parts) (i r : ℕ) → p ≡ q → r ≡ partsOf f q i → r ≡ partsOf f p i
-parts-is f p q i r e h = rw e h
+use Rattle.fields.specs.Fields.{Cut}
 
 -- where all is owned, the items of each statement have 32-bit numbers
 pub cut-at : (f : List ℕ) → ((k : ℕ) → Fits w8 (getD f k 0)) → owned f ≡ true → (i : ℕ) {n at : ℕ} → n ≡ size f statements → i < n → at ≡ firstItem f i → Cut f i at
 cut-at f bytes all i count here is = record { first = is; within = items-fit f (items-few f bytes all) i count here is }
 
--- ---- words that are there or not
-pub absent-is : (there w : ℕ) → (not (eqb there 0) || eqb w 0) ≡ absent there w
-absent-is there w = go (eqb there 0) (eqb w 0)
-  where
-    go : (a b : Bool) → (not a || b) ≡ cond a b true
-    go true b = refl
-    go false b = refl
-
-pub optional-is : (there v w : ℕ) (a b : Bool) → a ≡ absent there v → b ≡ absent there w → (leb there 1 && a && b) ≡ optional there v w
-unfolding optional
-optional-is there v w a b p q = rw (p, q)
-
--- a test before three or four others
-and-three : (x a b c : Bool) → (x && (a && b && c)) ≡ (x && a && b && c)
-and-three true a b c = refl
-and-three false a b c = refl
-
-and-four : (x a b c d : Bool) → (x && (a && b && c && d)) ≡ (x && a && b && c && d)
-and-four true a b c d = refl
-and-four false a b c d = refl
-
-two-optional : (a b c d e g : ℕ) → (optional a b c && optional d e g) ≡ (bit a && absent a b && absent a c && bit d && absent d e && absent d g)
-unfolding optional
-two-optional a b c d e g = and-three (bit a && absent a b && absent a c) (bit d) (absent d e) (absent d g)
-
--- ---- blocks and phis
-pub block-is : (f : List ℕ) (i a b c d e g : ℕ) (x y : Bool)
-    → a ≡ blockWord f i 2 → b ≡ blockWord f i 3 → c ≡ blockWord f i 4 → d ≡ blockWord f i 5 → e ≡ blockWord f i 6 → g ≡ blockWord f i 7
-    → x ≡ optional a b c → y ≡ optional d e g → (x && y) ≡ blockShaped f i
-unfolding blockShaped
-block-is f i a b c d e g x y pa pb pc pd pe pg px py = rw (px, py, pa, pb, pc, pd, pe, pg) (two-optional _ _ _ _ _ _)
-
-pub phi-is : (f : List ℕ) (i a : ℕ) → a ≡ phiWord f i 2 → leb a 1 ≡ phiShaped f i
-unfolding phiShaped
-phi-is f i a p = rw p
-
--- ---- statements
-module _ (w : ℕ → ℕ) where
-  pub tail-is : (a b c d : ℕ) → a ≡ w 3 → b ≡ w 4 → c ≡ w 5 → d ≡ w 6 → (eqb a 0 && eqb b 0 && eqb c 0 && eqb d 0) ≡ blankTail w
-  unfolding blankTail
-  tail-is a b c d pa pb pc pd = rw (pa, pb, pc, pd)
-
-  -- tests before it
-  with-tail : (b x : Bool) → x ≡ blankTail w → (b && x) ≡ (b && eqb (w 3) 0 && eqb (w 4) 0 && eqb (w 5) 0 && eqb (w 6) 0)
-  unfolding blankTail
-  with-tail b x q = rw q (and-four b (eqb (w 3) 0) (eqb (w 4) 0) (eqb (w 5) 0) (eqb (w 6) 0))
-
-  pub assign-is : (x : Bool) → x ≡ blankTail w → x ≡ fieldsShaped kAssign w
-  unfolding fieldsShaped blankTail
-  assign-is x p = p
-
-  pub store-is : (a : ℕ) (x : Bool) → a ≡ w 0 → x ≡ blankTail w → (leb a 255 && x) ≡ fieldsShaped kStore w
-  unfolding fieldsShaped
-  store-is a x p = rw p (with-tail (leb (w 0) 255) x)
-
-  pub call-is : (a b c : ℕ) (x : Bool) → a ≡ w 3 → b ≡ w 4 → c ≡ w 5 → x ≡ optional a b c → x ≡ fieldsShaped kCall w
-  unfolding fieldsShaped optional
-  call-is a b c x pa pb pc p = rw (p, pa, pb, pc)
-
-  pub branch-is : (a b c d e g : ℕ) (x y : Bool) → a ≡ w 0 → b ≡ w 1 → c ≡ w 2 → d ≡ w 3 → e ≡ w 4 → g ≡ w 5
-      → x ≡ optional a b c → y ≡ optional d e g → (x && y) ≡ fieldsShaped kBranch w
-  unfolding fieldsShaped
-  branch-is a b c d e g x y pa pb pc pd pe pg px py = rw (px, py, pa, pb, pc, pd, pe, pg) (two-optional _ _ _ _ _ _)
-
-  pub flags-is : (a : ℕ) (x : Bool) → a ≡ w 0 → x ≡ blankTail w → (leb a 1 && x) ≡ fieldsShaped kFlags w
-  unfolding fieldsShaped
-  flags-is a x p = rw p (with-tail (leb (w 0) 1) x)
-
-  pub return-is : (a b c : ℕ) (x y : Bool) → a ≡ w 0 → b ≡ w 1 → c ≡ w 2 → x ≡ absent a b → y ≡ blankTail w
-      → (leb a 1 && x && eqb c 0 && y) ≡ fieldsShaped kReturn w
-  unfolding fieldsShaped
-  return-is a b c x y pa pb pc p = rw (p, pa, pb, pc) (with-tail (bit (w 0) && absent (w 0) (w 1) && eqb (w 2) 0) y)
-
-  pub other-is : (a b c : ℕ) → a ≡ w 4 → b ≡ w 5 → c ≡ w 6 → (eqb a 0 && eqb b 0 && eqb c 0) ≡ fieldsShaped kOther w
-  unfolding fieldsShaped
-  other-is a b c pa pb pc = rw (pa, pb, pc)
-
-  -- what was looked at for kind n, where the kind is n
-  pub of-kind : (k n m : ℕ) (x : Bool) → k ≡ m → k ≡ n → x ≡ fieldsShaped n w → x ≡ fieldsShaped m w
-  of-kind k n m x p q h = rw (← p, q) h
-
-  pub no-kind : (k m : ℕ) → k ≡ m → (k ≡ 1 → ⊥) → (k ≡ 2 → ⊥) → (k ≡ 3 → ⊥) → (k ≡ 4 → ⊥) → (k ≡ 5 → ⊥) → (k ≡ 6 → ⊥) → (k ≡ 7 → ⊥)
-      → false ≡ fieldsShaped m w
-  unfolding fieldsShaped
-  no-kind k m p a b c d e g h = rw (← p, ne-eqb k 1 a, ne-eqb k 2 b, ne-eqb k 3 c, ne-eqb k 4 d, ne-eqb k 5 e, ne-eqb k 6 g, ne-eqb k 7 h)
-
--- the test of one item
-unfoldable pub itemTest : List ℕ → ℕ → ℕ → Bool
-itemTest f i k = eqb (itemWord f (firstItem f i + k) 1) 0
-
-pub items-is : (f : List ℕ) (i : ℕ) → itemsShaped f i ≡ allBelow (exprItems f i) (itemTest f i)
-unfolding itemsShaped itemTest
-items-is f i = refl
-
-pub item-word : (f : List ℕ) (i at k a : ℕ) → at ≡ firstItem f i → a ≡ itemWord f (at + k) 1 → eqb a 0 ≡ itemTest f i k
-unfolding itemTest
-item-word f i at k a p q = rw (q, p)
-
-pub cut-exprs : (f : List ℕ) (i at : ℕ) → Cut f i at → at + exprItems f i < 4294967296
-unfolding items
-cut-exprs f i at c = let h = c .within in omega arith
-
-pub stmt-is : (f : List ℕ) (i a : ℕ) (x y : Bool) → a ≡ stmtWord f i 2 → x ≡ fieldsShaped (stmtKind f i) (stmtField f i) → y ≡ itemsShaped f i
-    → (leb a 7 && x && y) ≡ stmtShaped f i
-unfolding stmtShaped
-stmt-is f i a x y p q r = rw (p, q, r)
-
--- ---- expressions
-pub bin-is : (t a c d : ℕ) → t ≡ 3 → true ≡ tagShaped t a c d
-unfolding tagShaped
-bin-is t a c d p = rw p
-
-pub un-is : (t a c d : ℕ) → t ≡ 4 → eqb d 0 ≡ tagShaped t a c d
-unfolding tagShaped
-un-is t a c d p = rw p
-
-pub load-is : (t a c d : ℕ) → t ≡ 5 → (leb a 255 && eqb c 0 && eqb d 0) ≡ tagShaped t a c d
-unfolding tagShaped
-load-is t a c d p = rw p
-
-pub plain-is : (t a c d : ℕ) → (t ≡ 3 → ⊥) → (t ≡ 4 → ⊥) → (t ≡ 5 → ⊥)
-    → ((eqb t 1 || eqb t 2 || eqb t 6) && eqb c 0 && eqb d 0) ≡ tagShaped t a c d
-unfolding tagShaped
-plain-is t a c d p q r = rw (ne-eqb t 3 p, ne-eqb t 4 q, ne-eqb t 5 r) (go (eqb t 1) (eqb t 2) (eqb t 6) (eqb c 0) (eqb d 0))
-  where
-    go : (x y z u v : Bool) → ((x || y || z) && u && v) ≡ cond x (u && v) (cond y (u && v) (cond z (u && v) false))
-    go true y z u v = refl
-    go false true z u v = refl
-    go false false true u v = refl
-    go false false false u v = refl
-
-pub expr-is : (f : List ℕ) (i t a c d : ℕ) (x : Bool) → t ≡ exprWord f i 0 → a ≡ exprWord f i 1 → c ≡ exprWord f i 3 → d ≡ exprWord f i 4
-    → x ≡ tagShaped t a c d → x ≡ exprShaped f i
-unfolding exprShaped tagShaped
-expr-is f i t a c d x pt pa pc pd p = rw (p, pt, pa, pc, pd)
-
--- ---- all of it
 pub shaped-is : (f : List ℕ) (a : ℕ) (x y z u : Bool) → a ≡ word f 8 → x ≡ allBelow (size f blocks) (blockShaped f) → y ≡ allBelow (size f phis) (phiShaped f)
     → z ≡ allBelow (size f statements) (stmtShaped f) → u ≡ allBelow (size f expressions) (exprShaped f) → (leb a 1 && x && y && z && u) ≡ shaped f
 unfolding shaped

@@ -3,8 +3,8 @@ use mathlib.Core.Bool.{Bool}
 use mathlib.Core.List.{List}
 use Prim.Native.Nat.{ℕ}
 use Rattle.definition.specs.Shape.{blockShaped, phiShaped, exprShaped}
-use Rattle.shape.specs.declared.shape.Records.{Records}
-use Rattle.shape.specs.declared.shape.Records.the-variants.{Blocks, Phis, Exprs}
+use Rattle.shape.specs.declared.Records.{Records}
+use Rattle.shape.specs.declared.Records.the-variants.{Blocks, Phis, Exprs}
 
 abbrev pub recordShaped : List ℕ → Records → ℕ → Bool
 recordShaped f Blocks = blockShaped f

@@ -8,7 +8,7 @@ use native.Mathlib.Omega.{arith}
 use lib.ListN.{length, getD, take, drop, replicate, length-append, List·getD-append}
 use lib.Seq.{take-suc, split-at, take-at, drop-at, getD-drop, getD-append-add}
 use Rattle.definition.specs.Words.{part}
-use Rattle.definition.specs.Lists.{range, gather}
+use Rattle.definition.specs.Lists.{range, gather, at}
 use Rattle.definition.specs.Read.{when}
 use Rattle.definition.specs.Tokens.{Token, tok, Line, textOf}
 use Rattle.definition.specs.Listing.{hasAddress, addressOf, lineWords, tokenWords, tokensOf, padded}
@@ -16,7 +16,7 @@ use Rattle.definition.proofs.ListLaws.{Each, end, _▸_, each-append}
 use Rattle.definition.proofs.Merge.{size, size-cons, size-append, text-append}
 use Rattle.room.proofs.Proper.{Kind8, Proper}
 use Rattle.room.proofs.Words.{words-length, rows-length, size-one, tokens-snoc}
-use Rattle.sheet.specs.Buffers.{numberAt, kindAt, startAt, endAt, textAt, tokenAt, tokensIn, firstOf, lastOf, lineIn}
+use Rattle.sheet.specs.Buffers.{kindAt, startAt, endAt, textAt, tokenAt, tokensIn, firstOf, lastOf, lineIn}
 use Rattle.sheet.proofs.Reading.{start-first, start-later, first-first, first-later}
 
 -- ---- tokens
@@ -24,8 +24,8 @@ abbrev no : Token
 no = tok 0 []
 
 -- within what is padded, the numbers are as they were
-pub padded-at : (n : ℕ) (l : List ℕ) (i : ℕ) → i < length l → numberAt (padded n l) i ≡ getD l i 0
-unfolding numberAt padded
+pub padded-at : (n : ℕ) (l : List ℕ) (i : ℕ) → i < length l → at (padded n l) i ≡ getD l i 0
+unfolding at padded
 padded-at n l i h = List·getD-append l (replicate (n - length l) 0) 0 i h
 
 word-at : (n : ℕ) (ts : List Token) (j : ℕ) → j < length ts → getD (tokenWords n ts) j 0 ≡ 8 * (n + size (take (suc j) ts)) + getD ts j no .kind
@@ -43,7 +43,7 @@ module _ (T B : ℕ) (ts : List Token) (kinds : Each Kind8 ts) where
   abbrev K : List ℕ
   K = padded T (tokenWords 0 ts)
 
-  number-is : (j : ℕ) → j < length ts → numberAt K j ≡ 8 * (0 + size (take (suc j) ts)) + getD ts j no .kind
+  number-is : (j : ℕ) → j < length ts → at K j ≡ 8 * (0 + size (take (suc j) ts)) + getD ts j no .kind
   number-is j h = padded-at T (tokenWords 0 ts) j (omega (arith, words-length 0 ts)) ∙ word-at 0 ts j h
 
   end-held : (j : ℕ) → j < length ts → endAt K j ≡ size (take (suc j) ts)
@@ -131,7 +131,7 @@ module _ (L T B : ℕ) (xs : List Line) (proper : Each Proper xs) (d : Line) whe
   rows = padded L (lineWords 0 xs)
 
   -- number r of line i
-  row-number : (i r : ℕ) → i < length xs → r < 5 → numberAt rows (5 * i + r) ≡ getD (drop (5 * i) (lineWords 0 xs)) r 0
+  row-number : (i r : ℕ) → i < length xs → r < 5 → at rows (5 * i + r) ≡ getD (drop (5 * i) (lineWords 0 xs)) r 0
   row-number i r h g = padded-at L (lineWords 0 xs) (5 * i + r) (omega (arith, rows-length 0 xs)) ∙ sym (getD-drop (5 * i) (lineWords 0 xs) r 0)
 
   last-held : (i : ℕ) → i < length xs → lastOf rows i ≡ length (tokensOf (take (suc i) xs))
@@ -176,7 +176,7 @@ module _ (L T B : ℕ) (xs : List Line) (proper : Each Proper xs) (d : Line) whe
     held =
         let row = row-at 0 xs i d h in
         let z : 5 * i + 0 ≡ 5 * i = omega arith in
-        let a : numberAt rows (5 * i) ≡ hasAddress (x .addr) = ap (numberAt rows) (sym z) ∙ row-number i 0 h (omega arith) ∙ ap (λ (l : List ℕ). getD l 0 0) row in
+        let a : at rows (5 * i) ≡ hasAddress (x .addr) = ap (at rows) (sym z) ∙ row-number i 0 h (omega arith) ∙ ap (λ (l : List ℕ). getD l 0 0) row in
         let b = row-number i 1 h (omega arith) ∙ ap (λ (l : List ℕ). getD l 1 0) row in
         let c = row-number i 2 h (omega arith) ∙ ap (λ (l : List ℕ). getD l 2 0) row in
         rw (a, b, c, when-held (x .addr), first-held i h, last-held i h, count-held, tokens-held)

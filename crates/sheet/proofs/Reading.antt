@@ -8,13 +8,15 @@ use native.Mathlib.Decide.{decLe}
 use native.Mathlib.Omega.{arith}
 use borrow.Author.Tests.{le-leb, lt-leb, eq-eqb, ne-eqb}
 use lib.Dec.{leb}
-use lib.ListN.{length, getD, take, drop, length-drop, drop-of-length-le, List·getD-eq-default}
+use lib.ListN.{length, take, drop, length-drop, drop-of-length-le}
 use lib.Seq.{take-all, take-nil, length-take-le}
 use Rattle.definition.specs.Words.{part}
 use Rattle.definition.specs.Texts.{same, isEmpty}
 use Rattle.definition.specs.Tokens.{tok}
 use Rattle.definition.specs.Sorts.{isTok}
-use Rattle.sheet.specs.Buffers.{numberAt, kindAt, startAt, endAt, textAt, tokenAt, lastOf, firstOf}
+use Rattle.definition.specs.Lists.{at}
+use Rattle.definition.proofs.ListLaws.{at-out}
+use Rattle.sheet.specs.Buffers.{kindAt, startAt, endAt, textAt, tokenAt, lastOf, firstOf}
 use Rattle.sheet.specs.Ranges.{least, between, SamePlace}
 
 -- ---- ranges
@@ -82,19 +84,11 @@ empty-is t from to e p = go (between t from to) (decLe e from) (length-between t
     go (b ∷ l) (no h) q = lt-leb e from (omega arith)
 
 -- ---- numbers
-pub number-in : (l : List ℕ) (i : ℕ) → getD l i 0 ≡ numberAt l i
-unfolding numberAt
-number-in l i = refl
-
-pub number-out : (l : List ℕ) (i : ℕ) → length l ≤ i → 0 ≡ numberAt l i
-unfolding numberAt
-number-out l i h = sym (List·getD-eq-default l 0 h)
-
-pub kind-is : (l : List ℕ) (j x : ℕ) → x ≡ numberAt l j → x % 8 ≡ kindAt l j
+pub kind-is : (l : List ℕ) (j x : ℕ) → x ≡ at l j → x % 8 ≡ kindAt l j
 unfolding kindAt
 kind-is l j x e = rw e
 
-pub end-is : (l : List ℕ) (j x : ℕ) → x ≡ numberAt l j → x / 8 ≡ endAt l j
+pub end-is : (l : List ℕ) (j x : ℕ) → x ≡ at l j → x / 8 ≡ endAt l j
 unfolding endAt
 end-is l j x e = rw e
 
@@ -106,10 +100,10 @@ pub start-later : (l : List ℕ) (j x : ℕ) → (j ≡ 0 → ⊥) → x ≡ end
 unfolding startAt
 start-later l j x n e = rw (ne-eqb j 0 n) e
 
-pub line-out : (l : List ℕ) (i k : ℕ) → length l / 5 < i → 0 ≡ numberAt l (5 * i + k)
-line-out l i k h = number-out l (5 * i + k) (omega arith)
+pub line-out : (l : List ℕ) (i k : ℕ) → length l / 5 < i → 0 ≡ at l (5 * i + k)
+line-out l i k h = at-out l (5 * i + k) (omega arith)
 
-pub last-in : (l : List ℕ) (i x : ℕ) → x ≡ numberAt l (5 * i + 3) → x ≡ lastOf l i
+pub last-in : (l : List ℕ) (i x : ℕ) → x ≡ at l (5 * i + 3) → x ≡ lastOf l i
 unfolding lastOf
 last-in l i x e = e
 
@@ -136,12 +130,12 @@ module _ (ks t : List ℕ) (j k : ℕ) (w : List ℕ) where
 pub place-past : (ks : List ℕ) (p q : ℕ) → length ks < p → length ks < q → SamePlace ks p q
 unfolding startAt endAt
 place-past ks p q h k = record {
-  number = sym (number-out ks p (omega arith)) ∙ number-out ks q (omega arith);
+  number = sym (at-out ks p (omega arith)) ∙ at-out ks q (omega arith);
   start =
-      let x = number-out ks (p - 1) (omega arith) in
-      let y = number-out ks (q - 1) (omega arith) in
+      let x = at-out ks (p - 1) (omega arith) in
+      let y = at-out ks (q - 1) (omega arith) in
       rw (ne-eqb p 0 (λ z. omega arith), ne-eqb q 0 (λ z. omega arith), ← x, ← y);
 }
 
 pub place-is : (ks : List ℕ) (p q : ℕ) → p ≡ q → SamePlace ks p q
-place-is ks p q e = record { number = ap (numberAt ks) e; start = ap (startAt ks) e }
+place-is ks p q e = record { number = ap (at ks) e; start = ap (startAt ks) e }

@@ -6,12 +6,10 @@ use Prim.Native.Nat.{ℕ, _+_, _*_}
 use Rattle.definition.specs.Texts.{same, isEmpty, begins, contains}
 use Rattle.definition.specs.Tokens.{tok}
 use Rattle.definition.specs.Sorts.{isTok}
+use Rattle.definition.specs.Lists.{at}
 use Rattle.definition.proofs.Unique.{equation}
-use Rattle.sheet.specs.Buffers.{numberAt, kindAt, startAt, endAt, tokenAt, firstOf, lastOf}
+use Rattle.sheet.specs.Buffers.{kindAt, startAt, endAt, tokenAt, firstOf, lastOf}
 use Rattle.sheet.specs.Ranges.{least as leastOf, between, SamePlace}
-
-pub number-at : (l : List ℕ) (i r s : ℕ) → r ≡ numberAt l i → s ≡ numberAt l i → r ≡ s
-number-at l i = equation (numberAt l i)
 
 pub kind-at : (ks : List ℕ) (j r s : ℕ) → r ≡ kindAt ks j → s ≡ kindAt ks j → r ≡ s
 kind-at ks j = equation (kindAt ks j)
@@ -28,8 +26,8 @@ token-is ks t j k w = equation (isTok (tok k w) (tokenAt ks t j))
 pub place : (ks : List ℕ) (p r s : ℕ) → SamePlace ks r p → SamePlace ks s p → SamePlace ks r s
 place ks p r s a b = record { number = a .number ∙ sym (b .number); start = a .start ∙ sym (b .start) }
 
-pub line-number : (l : List ℕ) (i k r s : ℕ) → r ≡ numberAt l (5 * i + k) → s ≡ numberAt l (5 * i + k) → r ≡ s
-line-number l i k = equation (numberAt l (5 * i + k))
+pub line-number : (l : List ℕ) (i k r s : ℕ) → r ≡ at l (5 * i + k) → s ≡ at l (5 * i + k) → r ≡ s
+line-number l i k = equation (at l (5 * i + k))
 
 pub first-of : (l : List ℕ) (i r s : ℕ) → r ≡ firstOf l i → s ≡ firstOf l i → r ≡ s
 first-of l i = equation (firstOf l i)

@@ -3,25 +3,21 @@ use mathlib.Core.Bool.{cond}
 use mathlib.Core.List.{List, map}
 use Prim.Native.Nat.{ℕ, _+_, _*_, _-_, _/_, _%_}
 use lib.Dec.{eqb}
-use lib.ListN.{getD}
 use Rattle.definition.specs.Words.{part}
-use Rattle.definition.specs.Lists.{range}
+use Rattle.definition.specs.Lists.{range, at}
 use Rattle.definition.specs.Read.{when}
 use Rattle.definition.specs.Tokens.{Token, tok, Line}
 use Rattle.definition.specs.Listing.{lineNumbers}
 
-unfoldable pub numberAt : List ℕ → ℕ → ℕ
-numberAt l i = getD l i 0
-
 -- the bytes of the token at place j end here, and begin where those of the token before it end
 unfoldable pub endAt : List ℕ → ℕ → ℕ
-endAt ks j = numberAt ks j / 8
+endAt ks j = at ks j / 8
 
 unfoldable pub startAt : List ℕ → ℕ → ℕ
 startAt ks j = cond (eqb j 0) 0 (endAt ks (j - 1))
 
 unfoldable pub kindAt : List ℕ → ℕ → ℕ
-kindAt ks j = numberAt ks j % 8
+kindAt ks j = at ks j % 8
 
 unfoldable pub textAt : List ℕ → List ℕ → ℕ → List ℕ
 textAt ks t j = part t (startAt ks j) (endAt ks j - startAt ks j)
@@ -35,14 +31,14 @@ tokensIn ks t a n = map (tokenAt ks t) (range a n)
 
 -- the tokens of line i: from the end of the line before it to its own
 unfoldable pub lastOf : List ℕ → ℕ → ℕ
-lastOf ls i = numberAt ls (lineNumbers * i + 3)
+lastOf ls i = at ls (lineNumbers * i + 3)
 
 unfoldable pub firstOf : List ℕ → ℕ → ℕ
 firstOf ls i = cond (eqb i 0) 0 (lastOf ls (i - 1))
 
 unfoldable pub lineIn : List ℕ → List ℕ → List ℕ → ℕ → Line
 lineIn ls ks t i = record {
-  addr = when (numberAt ls (lineNumbers * i)) (numberAt ls (lineNumbers * i + 1));
-  indent = numberAt ls (lineNumbers * i + 2);
+  addr = when (at ls (lineNumbers * i)) (at ls (lineNumbers * i + 1));
+  indent = at ls (lineNumbers * i + 2);
   toks = tokensIn ks t (firstOf ls i) (lastOf ls i - firstOf ls i);
 }

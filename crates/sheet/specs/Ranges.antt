@@ -5,7 +5,8 @@ use mathlib.Core.List.{List}
 use Prim.Native.Nat.{ℕ, _-_}
 use lib.Dec.{leb}
 use Rattle.definition.specs.Words.{part}
-use Rattle.sheet.specs.Buffers.{numberAt, startAt}
+use Rattle.definition.specs.Lists.{at}
+use Rattle.sheet.specs.Buffers.{startAt}
 
 -- the lesser of two numbers
 unfoldable pub least : ℕ → ℕ → ℕ
@@ -17,5 +18,5 @@ between t s e = part t s (e - s)
 
 -- what is read of the token at place p is what is read of the token at place q
 pub record SamePlace (ks : List ℕ) (p q : ℕ) : Type 0 where
-  pub number : numberAt ks p ≡ numberAt ks q
+  pub number : at ks p ≡ at ks q
   pub start : startAt ks p ≡ startAt ks q

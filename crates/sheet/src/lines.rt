@@ -1,8 +1,9 @@
 // The numbers of a line, and its tokens: from the end of the line before it to its own.
-use crate::tokens::number_at;
+use slices::at_u64;
 ghost use mathlib.Core.Path.{_≡_};
 ghost use Prim.Native.Nat.{_+_, _*_, _<_};
-ghost use Rattle.sheet.specs.Buffers.{numberAt, firstOf, lastOf};
+ghost use Rattle.definition.specs.Lists.{at};
+ghost use Rattle.sheet.specs.Buffers.{firstOf, lastOf};
 
 // The numbers of a line, and which of them is the end of its tokens.
 const ROW: usize = 5;
@@ -12,12 +13,12 @@ const END: usize = 3;
 // Number k of line i.
 pub fn line_number(lines: &[u64], i: usize, k: usize) -> u64
     requires { ⌜ k < 5 ⌝ }
-    ensures { λ r. ⌜ r ≡ numberAt (now (lines .entry)) (5 * i + k) ⌝ }
+    ensures { λ r. ⌜ r ≡ at (now (lines .entry)) (5 * i + k) ⌝ }
 {
     if lines.len() / ROW < i {
         return 0;
     }
-    number_at(lines, ROW * i + k)
+    at_u64(lines, ROW * i + k)
 }
 
 pub fn last_of(lines: &[u64], i: usize) -> usize

@@ -1,32 +1,23 @@
 // Tokens by their places. Total: behind the last there are tokens of kind 0 with no text.
 use crate::ranges::is_between;
+use slices::at_u64;
 ghost use mathlib.Core.Path.{_≡_};
 ghost use Prim.Native.Nat.{_+_};
 ghost use Rattle.definition.specs.Tokens.{tok};
 ghost use Rattle.definition.specs.Sorts.{isTok};
-ghost use Rattle.sheet.specs.Buffers.{numberAt, kindAt, startAt, endAt, tokenAt};
+ghost use Rattle.sheet.specs.Buffers.{kindAt, startAt, endAt, tokenAt};
 ghost use Rattle.sheet.specs.Ranges.{SamePlace};
-
-// The number at place i, 0 where there is none.
-pub fn number_at(l: &[u64], i: usize) -> u64
-    ensures { λ r. ⌜ r ≡ numberAt (now (l .entry)) i ⌝ }
-{
-    if i < l.len() {
-        return l[i];
-    }
-    0
-}
 
 pub fn kind_at(tokens: &[u64], j: usize) -> u32
     ensures { λ r. ⌜ r ≡ kindAt (now (tokens .entry)) j ⌝ }
 {
-    (number_at(tokens, j) % 8) as u32
+    (at_u64(tokens, j) % 8) as u32
 }
 
 pub fn end_at(tokens: &[u64], j: usize) -> usize
     ensures { λ r. ⌜ r ≡ endAt (now (tokens .entry)) j ⌝ }
 {
-    (number_at(tokens, j) / 8) as usize
+    (at_u64(tokens, j) / 8) as usize
 }
 
 pub fn start_at(tokens: &[u64], j: usize) -> usize

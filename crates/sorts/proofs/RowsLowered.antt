@@ -9,7 +9,7 @@ use borrow.Author.Tests.{eq-eqb, eqb-true}
 use lib.Dec.{eqb}
 use lib.ListN.{length, drop, List·getD-append, List·getD-eq-default}
 use Rattle.definition.specs.Texts.{same}
-use Rattle.definition.specs.Lists.{range, count}
+use Rattle.definition.specs.Lists.{range, count, at}
 use Rattle.definition.specs.Tokens.{Line}
 use Rattle.definition.specs.Sorts.{Sort, sort}
 use Rattle.definition.specs.Sorts.Sort.{label, condTo, jumpTo, plain, ifOpen, close, doOpen, whileClose}
@@ -22,7 +22,6 @@ use Rattle.sheet.specs.Buffers.{lineIn}
 use Rattle.sheet.specs.Ranges.{least}
 use Rattle.sheet.proofs.Reading.{least-left}
 use Rattle.outline.specs.Rows.{kindOf, indentOf, nameOf, originOf, lineAt}
-use Rattle.outline.specs.Tests.{at}
 use Rattle.coding.proofs.Coding.{Aims, Codes}
 use Rattle.coding.proofs.Lowering.{LowRow}
 use Rattle.sorts.specs.Places.{firstPlace}

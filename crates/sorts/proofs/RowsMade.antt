@@ -9,11 +9,11 @@ use native.Mathlib.Numerals.{add-one}
 use lib.ListN.{length, drop, set, length-append, length-drop}
 use lib.Seq.{drop-cons, set-at, append-snoc}
 use Rattle.definition.specs.Texts.{txt}
-use Rattle.definition.specs.Lists.{range}
+use Rattle.definition.specs.Lists.{range, at}
 use Rattle.definition.specs.Tokens.{Token, Line, keyword}
 use Rattle.definition.specs.Sorts.{Sort, sort, sortOf, sortAt, sortRest, sortJump, isLabel, gotoTarget, firstIs}
 use Rattle.records.proofs.Ranges.{map-last}
-use Rattle.sheet.specs.Buffers.{numberAt, textAt, tokensIn, firstOf, lastOf, lineIn}
+use Rattle.sheet.specs.Buffers.{textAt, tokensIn, firstOf, lastOf, lineIn}
 use Rattle.sheet.specs.Ranges.{least}
 use Rattle.sheet.proofs.Reading.{least-le}
 use Rattle.sorts.specs.declared.lines.Target.{Target}
@@ -43,7 +43,7 @@ unfolding sortJump jumpKind kindIn nameIn
 jump-row true u xs d i = refl
 jump-row false u xs d i = refl
 
-module _ (ls ks t : List ℕ) (n i : ℕ) (h : i < n) (a e d : ℕ) (first : a ≡ firstOf ls i) (last : e ≡ lastOf ls i) (indent : d ≡ numberAt ls (5 * i + 2)) where
+module _ (ls ks t : List ℕ) (n i : ℕ) (h : i < n) (a e d : ℕ) (first : a ≡ firstOf ls i) (last : e ≡ lastOf ls i) (indent : d ≡ at ls (5 * i + 2)) where
   abbrev xs : List Line
   xs = linesIn ls ks t n
 

@@ -9,6 +9,7 @@ use lib.Dec.{eqb, ltb}
 use lib.ListN.{length, take, set, replicate}
 use Rattle.definition.specs.Tokens.{Line}
 use Rattle.definition.specs.Sorts.{sort}
+use Rattle.definition.specs.Lists.{at}
 use Rattle.definition.proofs.Bools.{by-cond}
 use Rattle.definition.proofs.ListLaws.{Each, end, _▸_, each-append, each-map, each-take, each-drop, each-range, each-only}
 use Rattle.sheet.specs.Ranges.{least}
@@ -16,7 +17,6 @@ use Rattle.sheet.proofs.Reading.{least-left}
 use Rattle.passes.specs.declared.sweeps.Passed.{Passed}
 use Rattle.passes.specs.declared.sweeps.Passed.the-variants.{Done, TooDeep}
 use Rattle.outline.specs.Rows.{kindOf, indentOf, originOf, lineAt}
-use Rattle.outline.specs.Tests.{at}
 use Rattle.outline.specs.Spans.{spansOf}
 use Rattle.outline.specs.Forming.{raised, turned, changedIn, inserted}
 use Rattle.passes.specs.Regions.{opened, whiled, headed, closeRow, formedIf, formedDo, ifGoal, doGoal}

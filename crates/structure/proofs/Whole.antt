@@ -9,7 +9,7 @@ use native.Mathlib.Decide.{decLt}
 use lib.ListN.{length, take, replicate}
 use lib.Seq.{length-take-le}
 use Rattle.definition.specs.Edition.{Room as Limits}
-use Rattle.definition.specs.Lists.{has}
+use Rattle.definition.specs.Lists.{has, at}
 use Rattle.definition.specs.Tokens.{Line}
 use Rattle.definition.specs.Sorts.{sort}
 use Rattle.definition.specs.Passes.{conds, condName, closer}
@@ -24,7 +24,6 @@ use Rattle.room.proofs.View.{written}
 use Rattle.sheet.specs.Buffers.{lineIn}
 use Rattle.sheet.proofs.Held.{held}
 use Rattle.outline.specs.Rows.{originOf, linesOf}
-use Rattle.outline.specs.Tests.{at}
 use Rattle.coding.proofs.Shapes.{map-length}
 use Rattle.coding.proofs.Structuring.{Finished, Structured}
 use Rattle.coding.proofs.Lowering.{LowRow, lowered}

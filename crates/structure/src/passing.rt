@@ -1,10 +1,10 @@
 // The three passes, one behind the other, on the two tables.
 use crate::answers::Kept;
 use crate::answers::Passes;
+use dropping::drop_unused_labels;
+use ifs::structure_ifs;
+use loops::structure_do_while;
 use outline::forming::clear;
-use passes::dropping::drop_unused_labels;
-use passes::ifs::structure_ifs;
-use passes::loops::structure_do_while;
 use passes::sweeps::Passed;
 ghost use mathlib.Core.Path.{_≡_};
 ghost use lib.ListN.{length, replicate};

@@ -9,14 +9,14 @@ use mir.Syntax.{w8}
 use mir.Val.{Fits}
 use Rattle.words.proofs.Laws.{word-small}
 use Rattle.definition.specs.Edition.{Edition, Section, edition1, statements, expressions}
-use Rattle.definition.specs.Lists.{any}
+use Rattle.definition.specs.Lists.{any, at}
 use Rattle.definition.specs.Contents.{size, text, exprWord}
 use Rattle.definition.specs.Values.{Value, value}
 use Rattle.definition.specs.Read.{treeAt, trees, allTrees}
 use Rattle.definition.specs.Offsets.{Known, look, stackOff, outside, refused7}
-use Rattle.values.specs.declared.places.Places.{Places}
-use Rattle.values.specs.Keys.{keyOf, exprKey, placesOf, keyed}
-use Rattle.values.specs.Tables.{at, numbered, table}
+use Rattle.places.specs.declared.Places.{Places}
+use Rattle.places.specs.Keys.{keyOf, exprKey, placesOf, keyed}
+use Rattle.values.specs.Tables.{numbered, table}
 use Rattle.values.proofs.Tables.{table-read, numbered-below, Names}
 use Rattle.values.proofs.Placed.{at-expr, keyed-length, stmt-here, expr-here}
 use Rattle.sums.specs.Ground.{Ground}

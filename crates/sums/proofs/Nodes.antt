@@ -10,8 +10,8 @@ use lib.Seq.{take-nil, drop-cons}
 use borrow.Author.Tests.{lt-ltb, le-ltb, ltb-true, ne-eqb}
 use Rattle.definition.specs.Words.{part}
 use Rattle.definition.specs.Contents.{offset, exprWord, exprLong}
+use Rattle.definition.specs.Lists.{at}
 use Rattle.definition.proofs.Bools.{both-true}
-use Rattle.values.specs.Tables.{at}
 use Rattle.sums.specs.Address.{valueAt, single, opByte, isSign, signedBy, usedAt, constAt, sumAt, addressAt, outsideAt}
 
 pub value-is : (tab numbers : List ℕ) (from i v r : ℕ) → v ≡ at numbers (from + i) → r ≡ at tab v → r ≡ valueAt tab numbers from i

@@ -7,7 +7,7 @@ use Rattle.definition.specs.Codes.{tConst, tUse, tBin}
 use Rattle.definition.specs.Words.{part}
 use Rattle.definition.specs.Contents.{offset, exprWord, exprLong}
 use Rattle.definition.specs.Offsets.{half, whole, forth, back, plus, minus}
-use Rattle.values.specs.Tables.{at}
+use Rattle.definition.specs.Lists.{at}
 
 -- what a table says of the value at place i behind `from`
 unfoldable pub valueAt : List ℕ → List ℕ → ℕ → ℕ → ℕ

@@ -5,8 +5,8 @@ use mathlib.Core.List.{List}
 use Prim.Native.Nat.{ℕ, _≤_}
 use lib.ListN.{length}
 use Rattle.definition.specs.Shape.{owned}
-use Rattle.values.specs.declared.places.Places.{Places}
-use Rattle.values.specs.Keys.{placesOf}
+use Rattle.places.specs.declared.Places.{Places}
+use Rattle.places.specs.Keys.{placesOf}
 use Rattle.values.specs.Tables.{numbered}
 
 pub record Ground (f numbers : List ℕ) (places : Places) : Type 0 where

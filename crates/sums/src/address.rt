@@ -1,12 +1,12 @@
 // The offset of an address expression: of a value, or of a value plus or minus a constant.
 use crate::reading::sum_at;
 use crate::reading::value_at;
+use places::Places;
 use records::contents::EXPRESSIONS;
 use records::contents::expr_word;
 use records::contents::size_of;
 use records::owners::BIN;
 use records::owners::USE;
-use values::places::Places;
 ghost use mathlib.Core.Path.{_≡_};
 ghost use mathlib.Core.List.{List};
 ghost use Prim.Native.Nat.{_+_, _<_};

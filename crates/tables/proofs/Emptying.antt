@@ -5,20 +5,18 @@ use mathlib.Core.List.{List}
 use Prim.Native.Nat.{ℕ}
 use lib.Dec.{eqb}
 use lib.ListN.{length, replicate, length-replicate}
+use Rattle.definition.proofs.ListLaws.{zeros-long}
 use Rattle.tables.specs.Tables.{Tables, zeros, cleared, long}
 use Rattle.tables.specs.Filled.{given}
 
 -- ---- one list
-pub long-zeros : (l : List ℕ) (n : ℕ) → l ≡ replicate n 0 → length l ≡ n
-long-zeros l n e = ap length e ∙ length-replicate n 0
-
 -- zeros of some length are zeros of any equal one
 pub zeros-of : (l : List ℕ) (n m : ℕ) → m ≡ n → l ≡ replicate n 0 → l ≡ replicate m 0
 zeros-of l n m p e = e ∙ ap (λ (k : ℕ). replicate k 0) (sym p)
 
 -- a table emptied twice: l before, k behind its first writer, m at the end
 pub again : (l k m : List ℕ) (n : ℕ) → l ≡ replicate n 0 → length k ≡ length l → m ≡ replicate (length k) 0 → m ≡ replicate n 0
-again l k m n e p q = zeros-of m (length k) n (sym (p ∙ long-zeros l n e)) q
+again l k m n e p q = zeros-of m (length k) n (sym (p ∙ zeros-long l n e)) q
 
 -- ---- all tables
 -- tables are equal where all of them are

@@ -13,15 +13,16 @@ use Rattle.definition.specs.Edition.{edition1}
 use Rattle.definition.specs.Read.{read, allTrees}
 use Rattle.definition.specs.Offsets.{offsets, refused7}
 use Rattle.definition.specs.Listing.{checked}
-use Rattle.values.specs.declared.places.Places.{Places}
-use Rattle.values.specs.Keys.{placesOf}
+use Rattle.places.specs.declared.Places.{Places}
+use Rattle.places.specs.Keys.{placesOf}
 use Rattle.file.specs.Verdicts.{verdict, Checked}
 use Rattle.analyses.specs.Sound.{Sound}
 use Rattle.analyses.proofs.Sound.{sound}
 use Rattle.tables.specs.Tables.{Tables, tablesOf, most, zeros, cleared, long}
 use Rattle.tables.specs.Filled.{outside, judged, answer, given, Held, Filled}
 use Rattle.tables.specs.Stages.{width, Grounded, Stacked, Unread, Counted, Called, Blank, Staged, Analysed}
-use Rattle.tables.proofs.Emptying.{long-zeros, zeros-of, again, all-clear, zeros-twice, given-twice, clear-twice, long-cleared}
+use Rattle.definition.proofs.ListLaws.{zeros-long}
+use Rattle.tables.proofs.Emptying.{zeros-of, again, all-clear, zeros-twice, given-twice, clear-twice, long-cleared}
 use Rattle.tables.proofs.Blanks.{blank}
 use Rattle.tables.proofs.Lending.{fronts, widened, lent-blank, still-blank, still-staged}
 
@@ -37,7 +38,7 @@ all-given l t = refl
 -- l and m have been zeros of one length
 as-zeros : (l m : List ℕ) (n : ℕ) → l ≡ replicate n 0 → m ≡ replicate n 0 → m ≡ zeros l
 unfolding zeros
-as-zeros l m n p q = zeros-of m n (length l) (long-zeros l n p) q
+as-zeros l m n p q = zeros-of m n (length l) (zeros-long l n p) q
 
 pub refused-held : (f : List ℕ) (r : ℕ) (T T′ : Tables) → (r ≡ 0 → ⊥) → T′ ≡ cleared T → Held f r T T′
 unfolding cleared
@@ -69,7 +70,7 @@ module _ (T T′ : Tables) (b : Blank most T) where
       (same most (b .unnamed .no-names) (d .unnamed .no-names), same most (b .unmarked .no-marks) (d .unmarked .no-marks), same 320 (b .unmarked .no-labels) (d .unmarked .no-labels)))
     where
       same : {l m : List ℕ} (n : ℕ) → l ≡ replicate n 0 → m ≡ replicate n 0 → m ≡ replicate (length l) 0
-      same {l} {m} n p q = zeros-of m n (length l) (long-zeros l n p) q
+      same {l} {m} n p q = zeros-of m n (length l) (zeros-long l n p) q
 
   staged-held : (f : List ℕ) → Staged f most T′ → Held f 0 T T′
   staged-held f s = record {
@@ -149,7 +150,7 @@ staged f T U ks b k ek g s d n = record {
 -- ---- over the fronts
 -- a table of zeros is as long as the file has places, or longer
 pub front-fits : (f l : List ℕ) (p : Places) → p ≡ placesOf f → Sound f → l ≡ replicate most 0 → p .total ≤ length l
-front-fits f l p e S z = omega (arith, ap (λ (q : Places). q .total) e, S .few-places, long-zeros l most z)
+front-fits f l p e S z = omega (arith, ap (λ (q : Places). q .total) e, S .few-places, zeros-long l most z)
 
 module _ (f : List ℕ) (S : Sound f) (T : Tables) (b : Blank most T) (p : Places) (e : p ≡ placesOf f) where
   pub front-lent : Blank (width f) (fronts (p .total) T)
@@ -187,7 +188,7 @@ module _ (f : List ℕ) (T : Tables) (z : T ≡ cleared T) (r : Bool) (e : r ≡
     module _ (o : List ℕ) (n v : ℕ) (d : Checked f v (T .order) o) (g : n ≡ v) where
       number-is : n ≡ checked edition1 f
       unfolding verdict
-      number-is = g ∙ d .says ∙ rw (eq-eqb (length (T .order)) 2048 (long-zeros (T .order) 2048 (all-blank .unread .no-order))) refl
+      number-is = g ∙ d .says ∙ rw (eq-eqb (length (T .order)) 2048 (zeros-long (T .order) 2048 (all-blank .unread .no-order))) refl
 
       -- the checks leave zeros, as they were given
       order-back : ordered T o ≡ T

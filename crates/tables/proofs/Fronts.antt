@@ -18,9 +18,10 @@ use Rattle.definition.specs.Values.{Value}
 use Rattle.definition.specs.Read.{read}
 use Rattle.definition.specs.Classes.{find, classes}
 use Rattle.definition.specs.Listing.{padded}
+use Rattle.definition.specs.Lists.{at}
 use Rattle.definition.proofs.Bools.{by-test}
-use Rattle.values.specs.Keys.{keyOf, valueOf, keysOf, placesOf, keyed}
-use Rattle.values.specs.Tables.{at, firstOf, numberOf, numbersOf, entry, tabled, numbered, table}
+use Rattle.places.specs.Keys.{keyOf, valueOf, keysOf, placesOf, keyed}
+use Rattle.values.specs.Tables.{firstOf, numberOf, numbersOf, entry, tabled, numbered, table}
 use Rattle.values.proofs.Ranges.{at-left, at-right, zeros-at}
 use Rattle.values.proofs.Tables.{encode, first-le, number-at, number-none, numbers-length, tabled-length, same-at, numbered-length, table-length, tabled-at, Names}
 use Rattle.values.proofs.Placed.{places-length, keyed-length}

@@ -22,7 +22,8 @@ use Rattle.analyses.proofs.Sound.{sound}
 use Rattle.tables.specs.Tables.{Tables, most, zeros, cleared, long}
 use Rattle.tables.specs.Filled.{judged, answer, given, Filled}
 use Rattle.tables.specs.Stages.{Rooted, Stacked, Marked, Blank}
-use Rattle.tables.proofs.Emptying.{long-zeros, clear-twice, long-cleared}
+use Rattle.definition.proofs.ListLaws.{zeros-long}
+use Rattle.tables.proofs.Emptying.{clear-twice, long-cleared}
 use Rattle.tables.proofs.Blanks.{blank}
 
 -- of two answers the first was chosen, as the other is not 0
@@ -55,7 +56,7 @@ module _ (f : List ℕ) (T T′ : Tables) (p : Filled f 0 T T′) where
 
   as-long : (l : List ℕ) (n : ℕ) → zeros l ≡ replicate n 0 → length l ≡ n
   unfolding zeros
-  as-long l n e = sym (length-replicate (length l) 0) ∙ long-zeros (replicate (length l) 0) n e
+  as-long l n e = sym (length-replicate (length l) 0) ∙ zeros-long (replicate (length l) 0) n e
 
   pub numbers-long : length (T .numbers) ≡ most
   unfolding cleared

@@ -8,7 +8,7 @@ use lib.ListN.{getD, take, drop, replicate}
 use mir.Syntax.{w8}
 use mir.Val.{Fits}
 use Rattle.definition.specs.Shape.{owned}
-use Rattle.values.specs.Keys.{placesOf}
+use Rattle.places.specs.Keys.{placesOf}
 use Rattle.tables.specs.Tables.{Tables, tablesOf}
 use Rattle.tables.specs.Stages.{Blank, Staged}
 use Rattle.tables.proofs.Fronts.{front-zeros, rest-zeros, back-zeros, numbered-front, table-front, roots-front}

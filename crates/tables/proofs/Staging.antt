@@ -12,30 +12,30 @@ use Rattle.definition.specs.Shape.{owned}
 use Rattle.definition.specs.Meaning.{starts}
 use Rattle.definition.specs.Read.{read, allTrees}
 use Rattle.definition.specs.Offsets.{Known, look, offsets, refused7}
-use Rattle.definition.proofs.ListLaws.{own-zeros}
-use Rattle.values.specs.Keys.{placesOf, keyed}
+use Rattle.definition.proofs.ListLaws.{zeros-long, own-zeros}
+use Rattle.places.specs.Keys.{placesOf, keyed}
 use Rattle.values.specs.Tables.{numbered, table}
 use Rattle.values.proofs.Tables.{table-length}
 use Rattle.values.proofs.Placed.{keyed-length}
-use Rattle.reads.specs.Orders.{Ordered}
+use Rattle.uses.specs.Orders.{Ordered}
 use Rattle.reads.specs.Counts.{lastReader}
 use Rattle.names.specs.Given.{EntryRead}
 use Rattle.sums.specs.Ground.{Ground}
 use Rattle.marks.specs.Reading.{ReadRoots}
-use Rattle.marks.specs.Labels.{Labels}
+use Rattle.labels.specs.Labels.{Labels}
 use Rattle.analyses.specs.Sound.{Sound}
 use Rattle.analyses.specs.Tables.{Unnumbered, Before, ReadAs, Shared, Unplaced, Placed, Nameable, Nameless, Named}
 use Rattle.tables.specs.Stages.{width, Grounded, Rooted, Stacked, Stack, Unvalued, Unread, Unnamed, Unmarked, Marked, Called, Counted}
-use Rattle.tables.proofs.Emptying.{long-zeros, zeros-of, again}
+use Rattle.tables.proofs.Emptying.{zeros-of, again}
 
 -- ---- numbers
 pub unnumbered : (f ks ns os order starts loads live phi spare : List ℕ) → Sound f → Unvalued (width f) ks ns os → Unread (width f) order starts loads live phi spare
     → Unnumbered f ks ns order spare
 unnumbered f ks ns os order starts loads live phi spare s u v =
-    let k = long-zeros ks (width f) (u .no-keys) in
-    let n = long-zeros ns (width f) (u .no-numbers) in
-    let h = long-zeros order 2048 (v .no-order) in
-    let x = long-zeros spare (width f) (v .no-spare) in
+    let k = zeros-long ks (width f) (u .no-keys) in
+    let n = zeros-long ns (width f) (u .no-numbers) in
+    let h = zeros-long order 2048 (v .no-order) in
+    let x = zeros-long spare (width f) (v .no-spare) in
     record {
       own = s .own;
       registered = s .registered;
@@ -63,12 +63,12 @@ unread-still n order starts loads live phi spare order′ spare′ u p o q x = r
 pub grounded : (f ks ns ns′ : List ℕ) → Sound f → ks ≡ replicate (width f) 0 → ns ≡ replicate (width f) 0 → ns′ ≡ numbered f (length ks) → length ns′ ≡ length ns → Grounded f ns′
 grounded f ks ns ns′ s k n e p = record {
   sound = s;
-  numbers = e ∙ ap (numbered f) (long-zeros ks (width f) k);
-  long = p ∙ long-zeros ns (width f) n;
+  numbers = e ∙ ap (numbered f) (zeros-long ks (width f) k);
+  long = p ∙ zeros-long ns (width f) n;
 }
 
 pub all-keys : (f ks ks′ : List ℕ) → ks ≡ replicate (width f) 0 → ks′ ≡ keyed f (length ks) → ks′ ≡ keyed f (width f)
-all-keys f ks ks′ k e = e ∙ ap (keyed f) (long-zeros ks (width f) k)
+all-keys f ks ks′ k e = e ∙ ap (keyed f) (zeros-long ks (width f) k)
 
 module _ (f ns : List ℕ) (g : Grounded f ns) where
   few : placesOf f .total ≤ length ns
@@ -103,9 +103,9 @@ module _ (f ns : List ℕ) (g : Grounded f ns) where
   -- ---- reads
   pub unread : (order starts loads live phi readers : List ℕ) → Unread (width f) order starts loads live phi readers → Before f ns order starts loads live phi readers
   unread order starts loads live phi readers u =
-      let a = long-zeros order 2048 (u .no-order) in
-      let b = long-zeros starts 1025 (u .no-starts) in
-      let d = long-zeros loads 2048 (u .no-loads) in
+      let a = zeros-long order 2048 (u .no-order) in
+      let b = zeros-long starts 1025 (u .no-starts) in
+      let d = zeros-long loads 2048 (u .no-loads) in
       record {
         own = g .sound .own;
         room = few;
@@ -161,7 +161,7 @@ module _ (f ns : List ℕ) (g : Grounded f ns) where
 
   pub unplaced : (roots places names : List ℕ) → Unnamed (width f) roots places names → Unplaced (length ns) roots places
   unplaced roots places names u = record {
-    as-roots = long-zeros roots (width f) (u .no-roots) ∙ sym (g .long);
+    as-roots = zeros-long roots (width f) (u .no-roots) ∙ sym (g .long);
     no-places = as-numbers places (u .no-places);
   }
 
@@ -213,7 +213,7 @@ module _ (f ns : List ℕ) (g : Grounded f ns) where
   pub unlabelled : (marks labels : List ℕ) → Unmarked (width f) marks labels
       → ((owned f ≡ true) × (distinct (starts f) ≡ true)) × ((labels ≡ replicate (length labels) 0) × (size f blocks ≤ length labels))
   unlabelled marks labels u =
-      let l = long-zeros labels 320 (u .no-labels) in
+      let l = zeros-long labels 320 (u .no-labels) in
       let b : size f blocks ≤ length labels = omega (arith, l, g .sound .few-blocks) in
       ((g .sound .own, g .sound .apart), (own-zeros labels 320 (u .no-labels), b))
 
@@ -223,5 +223,5 @@ module _ (f ns : List ℕ) (g : Grounded f ns) where
       let m′ : ReadRoots f 8 (width f) os roots marks′ = subst (λ (n : ℕ). ReadRoots f 8 n os roots marks′) (g .long) m in
       record {
         really = λ E p. m′ E (offsets (read E f)) p (o E p) (r E);
-        labelled = subst (λ (n : ℕ). Labels f n labels′) (long-zeros labels 320 (u .no-labels)) l;
+        labelled = subst (λ (n : ℕ). Labels f n labels′) (zeros-long labels 320 (u .no-labels)) l;
       }

@@ -11,12 +11,12 @@ use Rattle.definition.specs.Read.{read, allTrees}
 use Rattle.definition.specs.Offsets.{look, offsets, refused7}
 use Rattle.definition.specs.Classes.{classes}
 use Rattle.definition.specs.Blocks.{readRoots}
-use Rattle.values.specs.Keys.{placesOf}
+use Rattle.places.specs.Keys.{placesOf}
 use Rattle.values.specs.Tables.{numbered, table}
 use Rattle.reads.specs.Counts.{LiveReads, PhiReads}
 use Rattle.inline.specs.Placing.{placeOf}
 use Rattle.names.specs.Given.{rootTable, nameTable}
-use Rattle.marks.specs.Labels.{Labels}
+use Rattle.labels.specs.Labels.{Labels}
 use Rattle.analyses.specs.Sound.{Sound}
 use Rattle.tables.specs.Tables.{Tables}
 use Rattle.tables.specs.Filled.{outside}

@@ -1,6 +1,6 @@
 // Of each table that has a number for each place the stages are lent the front, one number for each place of the file, so that their work goes by the file.
 use crate::steps::analyse;
-use values::places::places_of;
+use places::places_of;
 ghost use Rattle.analyses.specs.Sound.{Sound};
 ghost use Rattle.tables.specs.Tables.{tablesOf, most};
 ghost use Rattle.tables.specs.Stages.{Blank, Analysed};

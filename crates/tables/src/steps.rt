@@ -11,8 +11,8 @@ use zeros::clear_longs;
 use zeros::clear_words;
 ghost use mathlib.Core.Path.{_≡_};
 ghost use lib.ListN.{length, replicate};
-ghost use Rattle.values.specs.Keys.{keyed};
-ghost use Rattle.reads.specs.Orders.{Ordered};
+ghost use Rattle.places.specs.Keys.{keyed};
+ghost use Rattle.uses.specs.Orders.{Ordered};
 ghost use Rattle.names.specs.Given.{EntryRead};
 ghost use Rattle.analyses.specs.Sound.{Sound};
 ghost use Rattle.analyses.specs.Tables.{ReadAs};
@@ -29,7 +29,7 @@ fn stack(offs: &mut [u64], f: &[u8], numbers: &[u32], keys: &[u64]) -> bool
     requires { ⌜ now offs ≡ replicate (width (now f)) 0 ⌝ }
     ensures { λ r. ⌜ Stack (now (f .entry)) (width (now (f .entry))) r (now (offs .exit)) ⌝ }
 {
-    offsets::closure::offsets(offs, f, TEXT, numbers, keys);
+    offsets::offsets(offs, f, TEXT, numbers, keys);
     refused7(offs, f, TEXT, numbers)
 }
 
@@ -52,7 +52,7 @@ fn mark(
     ensures { λ _. ⌜ Marked (now (f .entry)) (width (now (f .entry))) (now (marks .exit)) (now (labels .exit)) ⌝ }
 {
     read_roots(marks, f, TEXT, numbers, offs, roots, order, starts);
-    marks::labels::labels(labels, f);
+    labels::labels(labels, f);
 }
 
 // The variables, their names, then the marks by their roots. `spare` holds the last readers, then what is read at entry; `marks` is the scratch of naming.

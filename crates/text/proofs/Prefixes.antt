@@ -6,7 +6,7 @@ use borrow.Author.Tests.{ne-eqb}
 use Rattle.definition.specs.Texts.{txt}
 use Rattle.definition.specs.Numbers.{HEX}
 use Rattle.definition.specs.Lookup.{sizePrefix}
-use Rattle.digits.specs.declared.numbers.Radix.the-variants.{Upper}
+use Rattle.digits.specs.declared.Radix.the-variants.{Upper}
 use Rattle.digits.specs.Numeral.{numeral}
 use Rattle.digits.proofs.Texts.{HEX-is}
 

@@ -1,9 +1,9 @@
 // The names that the file supplies, and the names of globals.
-use digits::leaf::Wrote;
-use digits::leaf::copy_part;
-use digits::numbers::HALF;
-use digits::numbers::Radix;
-use digits::numbers::behind;
+use digits::HALF;
+use digits::Radix;
+use digits::behind;
+use leaf::Wrote;
+use leaf::copy_part;
 use records::contents::NAMES;
 use records::contents::name_long;
 use records::contents::name_word;
@@ -16,7 +16,7 @@ ghost use Rattle.definition.specs.Words.{part};
 ghost use Rattle.definition.specs.Contents.{offset};
 ghost use Rattle.definition.specs.Numbers.{HEX};
 ghost use Rattle.definition.specs.Lookup.{sizePrefix};
-ghost use Rattle.digits.specs.Leaf.{Leaf};
+ghost use Rattle.leaf.specs.Leaf.{Leaf};
 ghost use Rattle.text.specs.Supplied.{found, nameIndex, nameText, isGlobal, globalText};
 
 pub enum Found {

@@ -1,10 +1,10 @@
 // The registers: their names at either width and the preserved set belong to the register itself.
-use digits::leaf::Wrote;
-use digits::leaf::copy_part;
+use leaf::Wrote;
+use leaf::copy_part;
 ghost use mathlib.Core.Path.{_≡_};
 ghost use Rattle.definition.specs.Lists.{among};
 ghost use Rattle.definition.specs.Registers.{regName, calleeSaved};
-ghost use Rattle.digits.specs.Leaf.{Leaf};
+ghost use Rattle.leaf.specs.Leaf.{Leaf};
 
 // Whether the number is among these.
 fn is_among(v: u32, s: &[u32]) -> bool

@@ -1,10 +1,10 @@
 // Document 01's examples of numbers, slots and four-byte loads, written by the writers, one a line.
-use digits::leaf::Wrote;
-use digits::leaf::copy;
-use digits::numbers::HALF;
-use digits::numbers::num;
-use digits::numbers::pointer;
-use digits::numbers::slot;
+use digits::HALF;
+use digits::num;
+use digits::pointer;
+use digits::slot;
+use leaf::Wrote;
+use leaf::copy;
 use libc::STDOUT_FILENO;
 use text::names::global_name;
 use text::names::is_global;

@@ -10,7 +10,8 @@ use native.Mathlib.Omega.{arith}
 use lib.Dec.{eqb, ltb}
 use lib.ListN.{length, set, replicate, length-set}
 use borrow.Author.Tests.{eq-eqb, ne-eqb, lt-ltb, le-ltb, ltb-true}
-use Rattle.values.specs.Tables.{at, firstOf, numberOf, numbersOf}
+use Rattle.definition.specs.Lists.{at}
+use Rattle.values.specs.Tables.{firstOf, numberOf, numbersOf}
 use Rattle.values.specs.Chains.{steps, walked, Chained, Numbered}
 use Rattle.values.proofs.Ranges.{zeros-at}
 use Rattle.values.proofs.Tables.{first-is, first-le, at-set-same, at-set-other, same-at, number-at, numbers-length}

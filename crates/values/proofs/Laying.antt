@@ -11,7 +11,7 @@ use mir.Syntax.{w8}
 use mir.Val.{Fits}
 use borrow.Author.Tests.{lt-ltb, le-ltb}
 use Rattle.definition.specs.Edition.{args, phis, inputs, statements, lists, expressions}
-use Rattle.definition.specs.Lists.{gather, range}
+use Rattle.definition.specs.Lists.{gather, range, at}
 use Rattle.definition.specs.Contents.{size}
 use Rattle.definition.specs.Owners.{exprItems, valueItems, items, phiInputs, firstInput, firstItem}
 use Rattle.definition.specs.Shape.{owned}
@@ -20,10 +20,9 @@ use Rattle.records.proofs.Items.{size-small}
 use Rattle.records.proofs.Below.{sum-part}
 use Rattle.records.proofs.Padded.{drop-zeros}
 use Rattle.records.proofs.Parts.{owned-parts}
-use Rattle.values.specs.declared.places.Places.{Places}
-use Rattle.values.specs.Keys.{inputKey, itemKey, inputKeys, itemKeys, keysOf, placesOf, keyed}
-use Rattle.values.specs.Tables.{at}
-use Rattle.values.specs.Laid.{laid, keyAt, itemAt}
+use Rattle.places.specs.declared.Places.{Places}
+use Rattle.places.specs.Keys.{inputKey, itemKey, inputKeys, itemKeys, keysOf, placesOf, keyed}
+use Rattle.places.specs.Laid.{laid, keyAt, itemAt}
 use Rattle.values.proofs.Ranges.{at-left, at-right, map-length, at-map, at-below}
 use Rattle.values.proofs.Tables.{same-at}
 use Rattle.values.proofs.Placed.{argList, phiList, inputList, stmtList, itemList, exprList, before-inputs, before-stmts, before-items, before-exprs, args-long, inputs-at, stmts-at, items-at, exprs-at, keys-parts, places-length, items-length}

@@ -7,15 +7,14 @@ use Prim.Native.Nat.{ℕ, _+_, _-_, _≤_, _<_}
 use native.Mathlib.Omega.{arith}
 use lib.ListN.{length, replicate, length-append, length-replicate}
 use Rattle.definition.specs.Edition.{args, phis, inputs, statements, expressions}
-use Rattle.definition.specs.Lists.{gather, range, sumBelow}
+use Rattle.definition.specs.Lists.{gather, range, sumBelow, at}
 use Rattle.definition.specs.Contents.{size}
 use Rattle.definition.specs.Owners.{exprItems, valueItems, items, phiInputs, firstInput, firstItem}
 use Rattle.definition.specs.Shape.{owned}
 use Rattle.definition.specs.Listing.{padded}
 use Rattle.records.proofs.Below.{sum-part, sum-same}
 use Rattle.records.proofs.Parts.{owned-parts}
-use Rattle.values.specs.Keys.{argKey, phiKey, inputKey, stmtKey, itemKey, exprKey, inputKeys, itemKeys, keysOf, placesOf, keyed}
-use Rattle.values.specs.Tables.{at}
+use Rattle.places.specs.Keys.{argKey, phiKey, inputKey, stmtKey, itemKey, exprKey, inputKeys, itemKeys, keysOf, placesOf, keyed}
 use Rattle.values.proofs.Ranges.{at-left, at-right, map-length, at-map, at-below, gather-length, at-gather}
 
 -- ---- the lists of the sections

@@ -5,10 +5,9 @@ use Prim.Native.Nat.{ℕ, zero, suc, _+_, _-_, _<_}
 use native.Mathlib.Omega.{arith}
 use lib.ListN.{length, replicate, length-append, length-map, List·getD-append}
 use lib.Seq.{getD-append-add}
-use Rattle.definition.specs.Lists.{gather, range, sumBelow}
+use Rattle.definition.specs.Lists.{gather, range, sumBelow, at}
 use Rattle.records.proofs.Editions.{length-range}
 use Rattle.records.proofs.Ranges.{range-parts, gather-append}
-use Rattle.values.specs.Tables.{at}
 
 -- ---- one list behind another
 pub at-left : (xs ys : List ℕ) (i : ℕ) → i < length xs → at (xs ++ ys) i ≡ at xs i

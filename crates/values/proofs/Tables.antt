@@ -11,10 +11,11 @@ use lib.ListN.{length, getD, set, replicate, length-map, length-set, length-repl
 use lib.Seq.{ext-getD, getD-set-same, getD-set-other}
 use borrow.Author.Tests.{eqb-true, eqb-false, eq-eqb, ne-eqb, not-true}
 use Rattle.definition.specs.Values.{Value, value, eqv}
+use Rattle.definition.specs.Lists.{at}
 use Rattle.definition.proofs.Bools.{by-test, is-false, eqb-swap}
 use Rattle.definition.proofs.Equal.{eqv-true, eqv-refl}
-use Rattle.values.specs.Keys.{keyOf, valueOf, keyed}
-use Rattle.values.specs.Tables.{at, firstOf, numberOf, numbersOf, entry, tabled, numbered, table}
+use Rattle.places.specs.Keys.{keyOf, valueOf, keyed}
+use Rattle.values.specs.Tables.{firstOf, numberOf, numbersOf, entry, tabled, numbered, table}
 use Rattle.values.proofs.Ranges.{map-length, at-below}
 
 -- ---- keys and values

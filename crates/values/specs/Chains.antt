@@ -5,7 +5,8 @@ use mathlib.Core.List.{List}
 use Prim.Native.Nat.{ℕ, zero, suc, _+_, _-_, _%_, _≤_}
 use lib.Dec.{eqb, ltb}
 use lib.ListN.{length, replicate}
-use Rattle.values.specs.Tables.{at, firstOf, numberOf, numbersOf}
+use Rattle.definition.specs.Lists.{at}
+use Rattle.values.specs.Tables.{firstOf, numberOf, numbersOf}
 
 -- from x on, at most n places: where k stands
 unfoldable pub steps : List ℕ → List ℕ → ℕ → ℕ → ℕ → ℕ

@@ -1,4 +1,2 @@
-pub mod Keys
 pub mod Tables
-pub mod Laid
 pub mod Chains

@@ -3,14 +3,10 @@ use mathlib.Core.Bool.{cond, not, _&&_}
 use mathlib.Core.List.{List, [], _∷_, map}
 use Prim.Native.Nat.{ℕ, suc}
 use lib.Dec.{eqb}
-use lib.ListN.{length, getD}
-use Rattle.definition.specs.Lists.{range}
+use lib.ListN.{length}
+use Rattle.definition.specs.Lists.{range, at}
 use Rattle.definition.specs.Values.{Value}
-use Rattle.values.specs.Keys.{valueOf, keyed}
-
--- what stands at place i, 0 outside
-unfoldable pub at : List ℕ → ℕ → ℕ
-at l i = getD l i 0
+use Rattle.places.specs.Keys.{valueOf, keyed}
 
 -- the first place of k, or the length where there is none
 unfoldable pub firstOf : List ℕ → ℕ → ℕ

@@ -1,9 +1,8 @@
 // The table of keys, section by section.
-use crate::key::input_key;
-use crate::key::item_key;
-use crate::key::key_at;
-use crate::places::places_of;
-use crate::read::put_u64;
+use places::key::input_key;
+use places::key::item_key;
+use places::key::key_at;
+use places::places_of;
 use records::contents::ARGS;
 use records::contents::EXPRESSIONS;
 use records::contents::PHIS;
@@ -11,6 +10,7 @@ use records::contents::STATEMENTS;
 use records::contents::size_of;
 use records::owners::items_of;
 use records::owners::phi_inputs;
+use slices::put_u64;
 ghost use mathlib.Core.Path.{_≡_};
 ghost use mathlib.Core.Bool.{true};
 ghost use mathlib.Core.List.{map};
@@ -22,8 +22,8 @@ ghost use Rattle.definition.specs.Contents.{size};
 ghost use Rattle.definition.specs.Owners.{items, phiInputs, firstInput, firstItem};
 ghost use Rattle.definition.specs.Shape.{owned};
 ghost use Rattle.definition.specs.Meaning.{registers};
-ghost use Rattle.values.specs.Keys.{inputKeys, itemKeys, placesOf, keyed};
-ghost use Rattle.values.specs.Laid.{laid, keyAt};
+ghost use Rattle.places.specs.Keys.{inputKeys, itemKeys, placesOf, keyed};
+ghost use Rattle.places.specs.Laid.{laid, keyAt};
 
 // A section in which each record is one place, from place `from` on.
 fn lay_section(keys: &mut [u64], f: &[u8], s: u32, from: usize)

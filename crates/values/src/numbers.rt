@@ -1,7 +1,7 @@
 // The number of every place: the first place of its key, found by chains of first places whose keys have one remainder.
-use crate::read::at_u32;
-use crate::read::at_u64;
-use crate::read::put_u32;
+use slices::at_u32;
+use slices::at_u64;
+use slices::put_u32;
 use zeros::clear_words;
 ghost use mathlib.Core.Path.{_≡_};
 ghost use Prim.Native.Nat.{_≤_, _<_};

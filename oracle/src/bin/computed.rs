@@ -1,5 +1,5 @@
-//! `computed SPECS BATCH NUMBER.. > Computed.antt`: the files with these numbers out of a batch and the oracle's answers to them,
-//! as one statement that the checker computes with every definition of SPECS open.
+//! `computed CRATE SPECS BATCH NUMBER.. > Computed.antt`: the files with these numbers out of a batch and the oracle's answers to them,
+//! as one statement of a crate that the checker computes with every definition of SPECS open.
 
 use std::fmt::Write as _;
 use std::io::Write;
@@ -9,7 +9,9 @@ use std::process::ExitCode;
 use oracle::list::{list, Listing};
 use oracle::refusal::Refusal;
 
-const USAGE: &str = "usage: computed SPECS BATCH NUMBER.. > Computed.antt";
+const USAGE: &str = "usage: computed CRATE SPECS BATCH NUMBER.. > Computed.antt";
+/// The crate that has SPECS; another one names it from outside, and takes from it what an answer is compared by.
+const HOME: &str = "definition";
 /// Zeros that the statement asks for behind each buffer.
 const BEHIND: usize = 2;
 
@@ -28,7 +30,7 @@ fn main() -> ExitCode {
 }
 
 fn run(args: &[String]) -> Result<String, String> {
-    let [specs, batch, numbers @ ..] = args else { return Err(USAGE.into()) };
+    let [crate_name, specs, batch, numbers @ ..] = args else { return Err(USAGE.into()) };
     let bytes = std::fs::read(batch).map_err(|e| format!("{batch}: {e}"))?;
     let files = files_of(&bytes).ok_or(format!("{batch}: not a batch of function files"))?;
     let mut cases = String::new();
@@ -37,8 +39,14 @@ fn run(args: &[String]) -> Result<String, String> {
         let _ = write!(cases, "-- file {n}\n{}", case(n, file));
     }
     let list: Vec<String> = numbers.iter().map(|n| format!("pair{n} ∷ ")).collect();
-    let (uses, names) = definitions(Path::new(specs))?;
-    Ok(format!("{HEAD}{uses}\n{PAIR}{cases}{AGREES}{}[]\n\n{STATEMENT}unfolding agrees cases {names}\ncomputed = refl\n", list.concat()))
+    let home = crate_name == HOME;
+    let (prefix, pair, agrees) = if home { ("Rattle.definition.specs", PAIR, AGREES) } else { ("Rattle.definition.specs", "", "") };
+    let head = if home { HEAD_HOME } else { HEAD_ABOVE };
+    let (uses, names) = definitions(Path::new(specs), prefix)?;
+    Ok(format!(
+        "{HEAD}{head}{uses}\n{pair}{cases}{agrees}{CASES}{}[]\n\n{STATEMENT}unfolding agrees cases {names}\ncomputed = refl\n",
+        list.concat()
+    ))
 }
 
 /// A batch: the number of files and their lengths, a word each, then the files.
@@ -56,7 +64,7 @@ fn files_of(bytes: &[u8]) -> Option<Vec<&[u8]>> {
 }
 
 /// Every `unfoldable` definition of the modules that SPECS/Lib.antt lists, in their order: the `use` lines, and all names.
-fn definitions(specs: &Path) -> Result<(String, String), String> {
+fn definitions(specs: &Path, prefix: &str) -> Result<(String, String), String> {
     let text = |name: &str| {
         let path = specs.join(format!("{name}.antt"));
         std::fs::read_to_string(&path).map_err(|e| format!("{}: {e}", path.display()))
@@ -68,7 +76,7 @@ fn definitions(specs: &Path) -> Result<(String, String), String> {
         let declared = body.lines().filter_map(|l| l.strip_prefix("unfoldable pub ")).filter_map(|l| l.split(' ').next());
         let names: Vec<&str> = declared.filter(|n| !all.iter().any(|a| a == n)).collect();
         if !names.is_empty() {
-            let _ = writeln!(uses, "use Rattle.definition.specs.{module}.{{{}}}", names.join(", "));
+            let _ = writeln!(uses, "use {prefix}.{module}.{{{}}}", names.join(", "));
         }
         all.extend(names.iter().map(|n| n.to_string()));
     }
@@ -122,13 +130,20 @@ fn numbers(l: &[u64]) -> String {
 const HEAD: &str = "-- Small files and the oracle's answers to them: the definition computes each answer, refusals and buffers too.
 -- Written by oracle/src/bin/computed.rs (vectors/README.md says how), not by hand.
 use mathlib.Core.Path.{_≡_, refl}
-use mathlib.Core.Bool.{Bool, true, _&&_}
 use mathlib.Core.List.{List, [], _∷_, _++_}
+";
+
+const HEAD_HOME: &str = "use mathlib.Core.Bool.{Bool, true, _&&_}
 use Prim.Native.Nat.{ℕ}
 use lib.Dec.{eqb}
 use lib.ListN.{length}
 use Rattle.definition.specs.Texts.{txt}
 use Rattle.definition.specs.Listing.{Result}
+";
+
+const HEAD_ABOVE: &str = "use mathlib.Core.Bool.{true}
+use Rattle.definition.specs.Texts.{txt}
+use Rattle.definition.proofs.Computed.{Pair, agrees}
 ";
 
 const PAIR: &str = "pub record Pair : Type 0 where
@@ -138,7 +153,7 @@ const PAIR: &str = "pub record Pair : Type 0 where
 ";
 
 const AGREES: &str = "-- the answer of the definition, with buffers as long as those expected
-pub agrees : Pair → Bool
+unfoldable pub agrees : Pair → Bool
 agrees p =
     let w = p .answer in
     let r = resultOf (record { lines = length (w .lineBuffer); tokens = length (w .tokenBuffer); text = length (w .textBuffer) }) (list edition1 (p .file)) in
@@ -146,7 +161,9 @@ agrees p =
     && eqb (r .ifs) (w .ifs) && eqb (r .loops) (w .loops) && eqb (r .tests) (w .tests)
     && same (r .lineBuffer) (w .lineBuffer) && same (r .tokenBuffer) (w .tokenBuffer) && same (r .textBuffer) (w .textBuffer)
 
-pub cases : List Pair
+";
+
+const CASES: &str = "pub cases : List Pair
 cases = ";
 
 const STATEMENT: &str = "pub computed : all agrees cases ≡ true

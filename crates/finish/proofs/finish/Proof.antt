@@ -19,11 +19,11 @@ abbrev μ-loop : tie.MeasureT-loop
 loop-holds : tie.Need-loop-holds Inv-loop μ-loop
 loop-holds c = (lines-start _ _ _ _ _, omega arith, refl, refl, refl)
 
-row-at-requires : tie.Need-row-at-requires Inv-loop μ-loop
-row-at-requires c κs = search needs
+at-u64-requires : tie.Need-at-u64-requires Inv-loop μ-loop
+at-u64-requires c κs = search needs
 
 write-row-requires : tie.Need-write-row-requires Inv-loop μ-loop
-write-row-requires c κs = let a = c .before .before .before .before .before .before .before .before .before .before .before .before .before .args in heads-at (a .from .now) (a .lowered .now) (a .source .now) (a .rows .now) (a .n) _ _ (c .before .before .before .before .before .before .before .before .before .before .before .before .before .pre) (c .before .before .before .before .loop-test .taken) (c .before .before .before .row-at .ensures)
+write-row-requires c κs = let a = c .before .before .before .before .before .before .before .before .before .before .before .before .before .args in heads-at (a .from .now) (a .lowered .now) (a .source .now) (a .rows .now) (a .n) _ _ (c .before .before .before .before .before .before .before .before .before .before .before .before .before .pre) (c .before .before .before .before .loop-test .taken) (c .before .before .before .at-u64 .ensures)
 
 add-i : tie.Need-add-i Inv-loop μ-loop
 add-i c = omega arith
@@ -32,7 +32,7 @@ loop-less : tie.Need-loop-less Inv-loop μ-loop
 loop-less c = omega arith
 
 loop-again : tie.Need-loop-again Inv-loop μ-loop
-loop-again c = let a = c .before .before .before .before .before .before .before .before .before .before .before .before .before .before .before .before .before .before .before .before .args in let inv = c .before .before .before .before .before .before .before .before .before .before .before .before .loop .inv in (lines-turn (a .from .now) (a .lowered .now) (a .source .now) (a .rows .now) _ _ _ _ _ (c .before .before .before .before .before .before .before .before .before .before .row-at .ensures) (inv .0) (c .before .before .before .before .before .before .write-row .ensures), omega arith, c .before .before .before .before .before .before .write-row .kept .0 ∙ inv .2, c .before .before .before .before .before .before .write-row .kept .1 .0 ∙ inv .3, c .before .before .before .before .before .before .write-row .kept .1 .1 .0 ∙ inv .4)
+loop-again c = let a = c .before .before .before .before .before .before .before .before .before .before .before .before .before .before .before .before .before .before .before .before .args in let inv = c .before .before .before .before .before .before .before .before .before .before .before .before .loop .inv in (lines-turn (a .from .now) (a .lowered .now) (a .source .now) (a .rows .now) _ _ _ _ _ (c .before .before .before .before .before .before .before .before .before .before .at-u64 .ensures) (inv .0) (c .before .before .before .before .before .before .write-row .ensures), omega arith, c .before .before .before .before .before .before .write-row .kept .0 ∙ inv .2, c .before .before .before .before .before .before .write-row .kept .1 .0 ∙ inv .3, c .before .before .before .before .before .before .write-row .kept .1 .1 .0 ∙ inv .4)
 
 same-length : tie.Need-same-length Inv-loop μ-loop
 same-length c = c .before .loop .inv .2
@@ -53,7 +53,7 @@ finish-spec =
     Inv-loop
     μ-loop
     loop-holds
-    row-at-requires
+    at-u64-requires
     write-row-requires
     add-i
     loop-less

@@ -11,7 +11,7 @@ use Rattle.definition.specs.Read.{read}
 use Rattle.definition.specs.Offsets.{offsets}
 use Rattle.definition.specs.Blocks.{lower as lowerOf}
 use Rattle.records.proofs.Items.{size-small}
-use Rattle.values.specs.Keys.{placesOf}
+use Rattle.places.specs.Keys.{placesOf}
 use Rattle.room.specs.Room.{sheetOf, writeAll, seenSheet}
 use Rattle.room.specs.Blank.{fresh}
 use Rattle.lower.specs.Given.{Stands}

@@ -1,6 +1,6 @@
 -- A statement passed over marks nothing; any other reads the nodes that `order` has from its start up to the next one's.
 use mathlib.Core.Path.{ap}
-use Rattle.values.specs.declared.places.Places.{Places}
+use Rattle.places.specs.declared.Places.{Places}
 use Rattle.reads.proofs.Visits.{exprs-low}
 use Rattle.marks.proofs.Rooting.{read-none, read-some}
 use borrow.Author.Needs.{needs}

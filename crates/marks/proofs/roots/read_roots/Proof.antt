@@ -11,7 +11,7 @@ use Rattle.definition.specs.Contents.{size, text}
 use Rattle.definition.specs.Lists.{gather, range}
 use Rattle.definition.proofs.Runs.{loop-start, lists-turn, lists-end}
 use Rattle.values.specs.Tables.{table}
-use Rattle.values.specs.Keys.{placesOf}
+use Rattle.places.specs.Keys.{placesOf}
 use Rattle.reads.specs.Counts.{visit, slots}
 use Rattle.sums.proofs.Naming.{grounded}
 use Rattle.marks.specs.Reading.{classed, reading}

@@ -2,8 +2,8 @@
 use Rattle.names.proofs.Entered.{entry-table}
 use Rattle.definition.proofs.Runs.{loop-start, lists-turn, lists-end}
 use Rattle.names.specs.Spots.{entrySpots, ticked}
-use Rattle.values.specs.Keys.{placesOf}
-use Rattle.values.specs.declared.places.Places.{Places}
+use Rattle.places.specs.Keys.{placesOf}
+use Rattle.places.specs.declared.Places.{Places}
 use Rattle.definition.specs.Lists.{gather, range}
 use Rattle.definition.specs.Contents.{size}
 use Rattle.definition.specs.Edition.{statements}

@@ -2,7 +2,7 @@
 use Rattle.naming.specs.Walk.{runSpot}
 use native.Mathlib.Omega.{arith}
 use mathlib.Core.Path.{ap}
-use Rattle.values.specs.declared.places.Places.{Places}
+use Rattle.places.specs.declared.Places.{Places}
 use Rattle.naming.proofs.Walking.{phi-rsp, phi-dead, phi-live}
 use Rattle.naming.proofs.Small.{phis-small}
 use borrow.Author.Needs.{needs}

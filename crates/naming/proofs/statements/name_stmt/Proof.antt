@@ -4,7 +4,7 @@ use mathlib.Core.Path.{ap, _∙_}
 use Rattle.definition.specs.Edition.{statements}
 use Rattle.records.proofs.Items.{size-small}
 use Rattle.defined.proofs.Values.{exprs-small, items-small}
-use Rattle.values.specs.declared.places.Places.{Places}
+use Rattle.places.specs.declared.Places.{Places}
 use Rattle.naming.specs.Walk.{walked, runSpot}
 use Rattle.naming.proofs.Walking.{stmt-dead, stmt-live}
 use Rattle.names.proofs.Reading.{uses-run}

@@ -4,7 +4,7 @@ use Rattle.definition.proofs.Runs.{lists-turn, lists-end}
 use Rattle.naming.specs.Given.{standing}
 use Rattle.names.specs.Spots.{known, state}
 use Rattle.naming.specs.Walk.{walked, blockSpots, spots}
-use Rattle.values.specs.Keys.{placesOf}
+use Rattle.places.specs.Keys.{placesOf}
 use Rattle.definition.specs.Owners.{firstPhi, firstStmt}
 use Rattle.definition.specs.Lists.{gather, range}
 use Rattle.definition.specs.Contents.{size}

@@ -18,14 +18,14 @@ loop-holds : tie.Need-loop-holds Inv-loop μ-loop
 unfolding deepIn
 loop-holds c = refl
 
-row-at-requires : tie.Need-row-at-requires Inv-loop μ-loop
-row-at-requires c κs = search needs
+at-u64-requires : tie.Need-at-u64-requires Inv-loop μ-loop
+at-u64-requires c κs = search needs
 
 too-deep-requires : tie.Need-too-deep-requires Inv-loop μ-loop
 too-deep-requires c κs = search needs
 
 returns : tie.Need-returns Inv-loop μ-loop
-returns c = some-hit _ _ _ _ (c .before .before .before .loop-test .taken) _ (c .before .before .row-at .ensures) _ (c .before .too-deep .ensures) (c .if1 .taken) ∙ sym (c .before .before .before .before .loop .inv)
+returns c = some-hit _ _ _ _ (c .before .before .before .loop-test .taken) _ (c .before .before .at-u64 .ensures) _ (c .before .too-deep .ensures) (c .if1 .taken) ∙ sym (c .before .before .before .before .loop .inv)
 
 add-k : tie.Need-add-k Inv-loop μ-loop
 add-k c = search needs
@@ -34,7 +34,7 @@ loop-less : tie.Need-loop-less Inv-loop μ-loop
 loop-less c = search needs
 
 loop-again : tie.Need-loop-again Inv-loop μ-loop
-loop-again c = c .before .before .before .before .loop .inv ∙ some-on _ _ _ _ (c .before .before .before .loop-test .taken) _ (c .before .before .row-at .ensures) _ (c .before .too-deep .ensures) (c .if1 .left)
+loop-again c = c .before .before .before .before .loop .inv ∙ some-on _ _ _ _ (c .before .before .before .loop-test .taken) _ (c .before .before .at-u64 .ensures) _ (c .before .too-deep .ensures) (c .if1 .left)
 
 returns-2 : tie.Need-returns-2 Inv-loop μ-loop
 returns-2 c = some-none _ _ _ _ (c .loop-test .left) ∙ sym (c .before .loop .inv)
@@ -46,7 +46,7 @@ deep-in-spec =
     Inv-loop
     μ-loop
     loop-holds
-    row-at-requires
+    at-u64-requires
     too-deep-requires
     returns
     add-k

@@ -13,14 +13,14 @@ returns c = aimed-other _ _ _ _ _ (c .before .kind-of .ensures) (c .if1 .taken)
 name-of-requires : tie.Need-name-of-requires
 name-of-requires c κs = search needs
 
-row-at-requires : tie.Need-row-at-requires
-row-at-requires c κs = search needs
+at-u64-requires : tie.Need-at-u64-requires
+at-u64-requires c κs = search needs
 
 is-outside-requires : tie.Need-is-outside-requires
 is-outside-requires c κs = search needs
 
 returns-2 : tie.Need-returns-2
-returns-2 c = aimed-label _ _ _ _ _ (c .before .before .before .before .kind-of .ensures) (c .before .before .before .if1 .left) _ _ _ (c .before .before .name-of .ensures) (c .before .row-at .ensures) (c .is-outside .ensures)
+returns-2 c = aimed-label _ _ _ _ _ (c .before .before .before .before .kind-of .ensures) (c .before .before .before .if1 .left) _ _ _ (c .before .before .name-of .ensures) (c .before .at-u64 .ensures) (c .is-outside .ensures)
 
 pub aimed-out-spec : {M : Type 1} → statement M
 aimed-out-spec =
@@ -29,6 +29,6 @@ aimed-out-spec =
     kind-of-requires
     returns
     name-of-requires
-    row-at-requires
+    at-u64-requires
     is-outside-requires
     returns-2)

@@ -1,7 +1,7 @@
 -- A goto widens the span at its name; a name past the table and a row that is no goto change nothing, as in the definition.
 use Rattle.outline.proofs.SpanLaws.{note-in, note-out, note-other}
-use Rattle.outline.specs.Tests.{at}
 use borrow.Author.Needs.{needs}
+use Rattle.definition.specs.Lists.{at}
 use Rattle.outline.proofs.spans.note_row.Statement.{statement}
 use Rattle.outline.proofs.spans.note_row.Tie as tie
 

@@ -17,8 +17,8 @@ abbrev μ-loop : tie.MeasureT-loop
 loop-holds : tie.Need-loop-holds Inv-loop μ-loop
 loop-holds c = (refl, note-start _ _ _)
 
-row-at-requires : tie.Need-row-at-requires Inv-loop μ-loop
-row-at-requires c κs = search needs
+at-u64-requires : tie.Need-at-u64-requires Inv-loop μ-loop
+at-u64-requires c κs = search needs
 
 note-row-requires : tie.Need-note-row-requires Inv-loop μ-loop
 note-row-requires c κs = search needs
@@ -30,7 +30,7 @@ loop-less : tie.Need-loop-less Inv-loop μ-loop
 loop-less c = search needs
 
 loop-again : tie.Need-loop-again Inv-loop μ-loop
-loop-again c = (c .before .before .note-row .kept .0 ∙ c .before .before .before .before .before .before .loop .inv .0, c .before .before .before .before .before .before .loop .inv .1 ∙ note-turn _ _ _ _ (c .before .before .before .before .before .loop-test .taken) _ (c .before .before .before .row-at .ensures) _ (c .before .before .note-row .ensures))
+loop-again c = (c .before .before .note-row .kept .0 ∙ c .before .before .before .before .before .before .loop .inv .0, c .before .before .before .before .before .before .loop .inv .1 ∙ note-turn _ _ _ _ (c .before .before .before .before .before .loop-test .taken) _ (c .before .before .before .at-u64 .ensures) _ (c .before .before .note-row .ensures))
 
 same-length : tie.Need-same-length Inv-loop μ-loop
 same-length c = search needs
@@ -45,7 +45,7 @@ note-rows-spec =
     Inv-loop
     μ-loop
     loop-holds
-    row-at-requires
+    at-u64-requires
     note-row-requires
     add-i
     loop-less

@@ -2,7 +2,7 @@
 use mathlib.Core.Path.{refl}
 use native.Mathlib.Omega.{arith}
 use Rattle.definition.specs.Words.{part}
-use Rattle.digits.proofs.Leaves.{no-front, no-end, end-count, both-fit}
+use Rattle.leaf.proofs.Leaves.{no-front, no-end, end-count, both-fit}
 use Prim.Native.Nat.{_+_, _≤_}
 use lib.ListN.{length}
 use borrow.Author.Needs.{needs}

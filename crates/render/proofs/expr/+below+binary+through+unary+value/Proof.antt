@@ -36,8 +36,8 @@ use Rattle.render.proofs.leaves.put_nothing.Reads as put-nothing-reads
 use Rattle.render.proofs.leaves.put_paren.Reads as put-paren-reads
 use Rattle.render.proofs.leaves.put_text.Reads as put-text-reads
 use Rattle.render.proofs.operators.put_operator.Reads as put-operator-reads
-use Rattle.values.proofs.read.at_u32.Reads as at-u32-reads
-use Rattle.values.proofs.read.at_u64.Reads as at-u64-reads
+use Rattle.slices.proofs.at_u32.Reads as at-u32-reads
+use Rattle.slices.proofs.at_u64.Reads as at-u64-reads
 use Rattle.render.proofs.expr.+below+binary+through+unary+value.{statement}
 use Rattle.render.proofs.expr.+below+binary+through+unary+value.Tie.{close}
 

@@ -7,18 +7,18 @@ use Rattle.sheet.proofs.lines.line_number.Tie as tie
 returns : tie.Need-returns
 returns c = line-out _ _ _ (c .if1 .taken)
 
-mul-number-at : tie.Need-mul-number-at
-mul-number-at c = search needs
+mul-at-u64 : tie.Need-mul-at-u64
+mul-at-u64 c = search needs
 
-add-number-at : tie.Need-add-number-at
-add-number-at c = search needs
+add-at-u64 : tie.Need-add-at-u64
+add-at-u64 c = search needs
 
-number-at-requires : tie.Need-number-at-requires
-number-at-requires c κs = search needs
+at-u64-requires : tie.Need-at-u64-requires
+at-u64-requires c κs = search needs
 
 returns-2 : tie.Need-returns-2
 returns-2 c = search needs
 
 pub line-number-spec : {M : Type 1} → statement M
 line-number-spec =
-    tie.close (tie.spec returns mul-number-at add-number-at number-at-requires returns-2)
+    tie.close (tie.spec returns mul-at-u64 add-at-u64 at-u64-requires returns-2)

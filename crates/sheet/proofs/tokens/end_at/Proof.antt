@@ -4,11 +4,11 @@ use borrow.Author.Needs.{needs}
 use Rattle.sheet.proofs.tokens.end_at.Statement.{statement}
 use Rattle.sheet.proofs.tokens.end_at.Tie as tie
 
-number-at-requires : tie.Need-number-at-requires
-number-at-requires c κs = search needs
+at-u64-requires : tie.Need-at-u64-requires
+at-u64-requires c κs = search needs
 
 returns : tie.Need-returns
-returns c = end-is _ _ _ (c .number-at .ensures)
+returns c = end-is _ _ _ (c .at-u64 .ensures)
 
 pub end-at-spec : {M : Type 1} → statement M
-end-at-spec = tie.close (tie.spec number-at-requires returns)
+end-at-spec = tie.close (tie.spec at-u64-requires returns)

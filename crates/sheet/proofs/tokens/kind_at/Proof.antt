@@ -4,14 +4,14 @@ use borrow.Author.Needs.{needs}
 use Rattle.sheet.proofs.tokens.kind_at.Statement.{statement}
 use Rattle.sheet.proofs.tokens.kind_at.Tie as tie
 
-number-at-requires : tie.Need-number-at-requires
-number-at-requires c κs = search needs
+at-u64-requires : tie.Need-at-u64-requires
+at-u64-requires c κs = search needs
 
 cast-result : tie.Need-cast-result
 cast-result c = search needs
 
 returns : tie.Need-returns
-returns c = kind-is _ _ _ (c .number-at .ensures)
+returns c = kind-is _ _ _ (c .at-u64 .ensures)
 
 pub kind-at-spec : {M : Type 1} → statement M
-kind-at-spec = tie.close (tie.spec number-at-requires cast-result returns)
+kind-at-spec = tie.close (tie.spec at-u64-requires cast-result returns)

@@ -1,6 +1,6 @@
 -- By the lookup's answer: a name that is found is the global's text; where there is none, the size's prefix and the address are.
 use Rattle.text.proofs.Lookups.{global-unnamed, global-named}
-use Rattle.digits.proofs.Leaves.{leaf-as}
+use Rattle.leaf.proofs.Leaves.{leaf-as}
 use borrow.Author.Needs.{needs}
 use Rattle.text.proofs.names.global_name.Statement.{statement}
 use Rattle.text.proofs.names.global_name.Tie as tie

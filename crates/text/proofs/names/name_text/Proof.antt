@@ -1,6 +1,6 @@
 -- Words 2 and 3 of the name are its text's start in the section and its length, so that part of the section is the name.
 use Rattle.text.proofs.Lookups.{name-part}
-use Rattle.digits.proofs.Leaves.{leaf-as}
+use Rattle.leaf.proofs.Leaves.{leaf-as}
 use borrow.Author.Needs.{needs}
 use Rattle.text.proofs.names.name_text.Statement.{statement}
 use Rattle.text.proofs.names.name_text.Tie as tie

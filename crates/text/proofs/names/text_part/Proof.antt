@@ -1,7 +1,7 @@
 -- The section's offset and the start, added up, are the place in the file where the part begins.
 use native.Mathlib.Omega.{arith}
 use Rattle.text.proofs.Lookups.{part-at}
-use Rattle.digits.proofs.Leaves.{leaf-as}
+use Rattle.leaf.proofs.Leaves.{leaf-as}
 use borrow.Author.Needs.{needs}
 use Rattle.text.proofs.names.text_part.Statement.{statement}
 use Rattle.text.proofs.names.text_part.Tie as tie

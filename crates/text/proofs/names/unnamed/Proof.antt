@@ -1,6 +1,6 @@
 -- By the size: 1, 2, 4 and 8 each have a prefix and any other has `unk_`, with the address in hexadecimal behind it.
 use Rattle.text.proofs.Prefixes.{byte-is, word-is, dword-is, qword-is, unk-is}
-use Rattle.digits.proofs.Leaves.{leaf-as}
+use Rattle.leaf.proofs.Leaves.{leaf-as}
 use borrow.Author.Needs.{needs}
 use Rattle.text.proofs.names.unnamed.Statement.{statement}
 use Rattle.text.proofs.names.unnamed.Tie as tie

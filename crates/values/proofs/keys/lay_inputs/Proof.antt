@@ -8,8 +8,8 @@ use Rattle.definition.specs.Lists.{gather, range}
 use Rattle.definition.specs.Edition.{phis}
 use Rattle.definition.specs.Contents.{size}
 use Rattle.definition.specs.Owners.{firstInput}
-use Rattle.values.specs.Keys.{inputKeys}
-use Rattle.values.specs.Laid.{laid}
+use Rattle.places.specs.Keys.{inputKeys}
+use Rattle.places.specs.Laid.{laid}
 use Rattle.values.proofs.Laying.{runs-start, runs-turn, runs-end, inputs-fit}
 use Rattle.records.proofs.Below.{sum-start, sum-turn}
 use Rattle.values.proofs.Placed.{inputs-length}

@@ -8,8 +8,8 @@ use Rattle.definition.specs.Lists.{gather, range}
 use Rattle.definition.specs.Edition.{statements}
 use Rattle.definition.specs.Contents.{size}
 use Rattle.definition.specs.Owners.{firstItem}
-use Rattle.values.specs.Keys.{itemKeys}
-use Rattle.values.specs.Laid.{laid}
+use Rattle.places.specs.Keys.{itemKeys}
+use Rattle.places.specs.Laid.{laid}
 use Rattle.values.proofs.Laying.{runs-start, runs-turn, runs-end}
 use Rattle.records.proofs.Items.{first-start, first-turn, items-fit}
 use Rattle.values.proofs.Placed.{items-length}

@@ -7,8 +7,8 @@ use Prim.Native.Nat.{_+_, _-_}
 use lib.ListN.{length}
 use Rattle.definition.specs.Lists.{range}
 use Rattle.definition.specs.Owners.{phiInputs}
-use Rattle.values.specs.Keys.{inputKey, inputKeys}
-use Rattle.values.specs.Laid.{laid}
+use Rattle.places.specs.Keys.{inputKey, inputKeys}
+use Rattle.places.specs.Laid.{laid}
 use Rattle.values.proofs.Laying.{phi-start, lay-turn, lay-end}
 use Rattle.values.proofs.keys.lay_phi.Statement.{statement}
 use Rattle.values.proofs.keys.lay_phi.Tie as tie

@@ -7,7 +7,7 @@ use Prim.Native.Nat.{_+_, _-_}
 use lib.ListN.{length}
 use Rattle.definition.specs.Lists.{range}
 use Rattle.definition.specs.Contents.{size}
-use Rattle.values.specs.Laid.{laid, keyAt}
+use Rattle.places.specs.Laid.{laid, keyAt}
 use Rattle.values.proofs.Laying.{lay-start, lay-turn, lay-end}
 use Rattle.values.proofs.keys.lay_section.Statement.{statement}
 use Rattle.values.proofs.keys.lay_section.Tie as tie

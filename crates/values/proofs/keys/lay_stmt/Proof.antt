@@ -7,8 +7,8 @@ use Prim.Native.Nat.{_+_, _-_}
 use lib.ListN.{length}
 use Rattle.definition.specs.Lists.{range}
 use Rattle.definition.specs.Owners.{items}
-use Rattle.values.specs.Keys.{itemKeys}
-use Rattle.values.specs.Laid.{laid, itemAt}
+use Rattle.places.specs.Keys.{itemKeys}
+use Rattle.places.specs.Laid.{laid, itemAt}
 use Rattle.values.proofs.Laying.{stmt-start, lay-turn, lay-end}
 use Rattle.values.proofs.keys.lay_stmt.Statement.{statement}
 use Rattle.values.proofs.keys.lay_stmt.Tie as tie

@@ -4,7 +4,8 @@ use borrow.Author.Needs.{needs}
 use mathlib.Core.Path.{_≡_, refl, _∙_}
 use Prim.Native.Nat.{ℕ, _-_, _<_}
 use lib.ListN.{length}
-use Rattle.values.specs.Tables.{at, numberOf}
+use Rattle.definition.specs.Lists.{at}
+use Rattle.values.specs.Tables.{numberOf}
 use Rattle.values.specs.Chains.{Chained}
 use Rattle.values.proofs.Chaining.{chain-start, filled-on, numbers-done}
 use Rattle.values.proofs.numbers.number_all.Statement.{statement}

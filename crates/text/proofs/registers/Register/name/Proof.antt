@@ -1,6 +1,6 @@
 -- By width and number: a name is a part of its table at three times the number, by a test of all registers; past the last it is empty.
 use Rattle.text.proofs.Tables.{name-32, name-8, name-9, name-other}
-use Rattle.digits.proofs.Leaves.{leaf-as}
+use Rattle.leaf.proofs.Leaves.{leaf-as}
 use native.Mathlib.Omega.{arith}
 use mathlib.Core.Logic.{⊎-elim}
 use borrow.Author.Needs.{needs}

@@ -1,0 +1,21 @@
+-- The front `loc_` with upper case hexadecimal digits behind it is the definition's label.
+use Rattle.digits.proofs.Texts.{label-is}
+use Rattle.leaf.proofs.Leaves.{leaf-as}
+use borrow.Author.Needs.{needs}
+use Rattle.digits.proofs.label.Statement.{statement}
+use Rattle.digits.proofs.label.Tie as tie
+
+slice-aggregate-behind : tie.Need-slice-aggregate-behind
+slice-aggregate-behind c = search needs
+
+behind-requires : tie.Need-behind-requires
+behind-requires c κs = search needs
+
+same-length : tie.Need-same-length
+same-length c = search needs
+
+returns : tie.Need-returns
+returns c = leaf-as (c .before .before .behind .ensures) (label-is _)
+
+pub label-spec : {M : Type 1} → statement M
+label-spec = tie.close (tie.spec slice-aggregate-behind behind-requires same-length returns)

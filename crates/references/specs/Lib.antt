@@ -1,3 +1,0 @@
-pub mod Tally
-pub mod Named
-pub mod Texts

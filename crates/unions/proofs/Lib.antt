@@ -1,0 +1,4 @@
+pub mod Forest
+pub mod Labels
+pub mod Orders
+pub mod Unique

@@ -1,0 +1,4 @@
+pub mod Uses
+pub mod Filling
+pub mod Orders
+pub mod Loads
