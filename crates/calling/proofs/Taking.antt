@@ -12,7 +12,7 @@ use Rattle.definition.specs.Edition.{Edition}
 use Rattle.definition.specs.Lists.{range}
 use Rattle.definition.specs.Owners.{stmtKind, stmtField}
 use Rattle.records.proofs.Items.{items-few, exprs-fit}
-use Rattle.records.proofs.Laws.{call-exprs}
+use Rattle.records.proofs.Laws.{kind-exprs}
 use Rattle.calling.specs.Given.{CallAt}
 use Rattle.lowering.specs.Commas.{treesOf, listed, least}
 use Rattle.lowering.proofs.Commas.{take-listed, least-le}
@@ -60,7 +60,7 @@ skip-le false n = omega arith
 -- ---- the run stays below 32 bits
 module _ (f : List ℕ) (bytes : (k : ℕ) → Fits w8 (getD f k 0)) (i item : ℕ) (at : CallAt f i item) (n : ℕ) (field : n ≡ stmtField f i 2) where
   pub items-below : item + n < 4294967296
-  items-below = omega (arith, exprs-fit f (items-few f bytes (at .own)) i refl (at .inside) (at .first), call-exprs f i (stmtKind f i) n refl (at .kind) field)
+  items-below = omega (arith, exprs-fit f (items-few f bytes (at .own)) i refl (at .inside) (at .first), kind-exprs f i (stmtKind f i) n refl 3 (at .kind) field)
 
   module _ (b : Bool) (s : ℕ) (skips : s ≡ skip b n) where
     pub skip-fits : s ≤ n

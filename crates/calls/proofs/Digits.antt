@@ -17,7 +17,8 @@ use Rattle.text.proofs.Lookups.{answers}
 use Rattle.calls.specs.declared.hex.Hex.{Hex}
 use Rattle.calls.specs.declared.hex.Hex.the-variants.{Value, None}
 use Rattle.calls.specs.Spelled.{hexed}
-use Rattle.calls.proofs.Trims.{size-most, part-cut, part-first}
+use Rattle.words.proofs.Parts.{size-most, part-cut}
+use Rattle.calls.proofs.Trims.{part-first}
 
 -- ---- the answers
 abbrev valued : Hex → Option ℕ

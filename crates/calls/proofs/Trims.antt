@@ -4,52 +4,18 @@ use mathlib.Core.Bool.{Bool, true, false, cond, _&&_}
 use mathlib.Core.List.{List, [], _∷_}
 use Prim.Native.Nat.{ℕ, zero, suc, _+_, _-_, _/_, _≤_, _<_}
 use native.Mathlib.Omega.{arith}
-use native.Mathlib.Decide.{decLe}
 use lib.Dec.{eqb}
-use lib.ListN.{length, take, drop, getD, length-drop, drop-of-length-le}
-use lib.Seq.{take-nil, take-all, take-add, drop-cons, drop-drop, drop-at, length-take-le}
+use lib.ListN.{length, take, drop, getD, length-drop}
+use lib.Seq.{take-add, drop-cons, drop-drop, drop-at, length-take-le}
 use Rattle.definition.specs.Words.{part}
 use Rattle.definition.specs.Texts.{txt, begins, shed, trimStart}
 use Rattle.definition.proofs.TextLaws.{begins-length}
 use Rattle.words.proofs.Laws.{begins-short}
+use Rattle.words.proofs.Parts.{size-most}
 use Rattle.calls.specs.Spelled.{Trimmed}
 
--- ---- how much there is
 module _ (f : List ℕ) (at n : ℕ) where
-  pub size-past : length f ≤ at → 0 ≡ length (part f at n)
-  unfolding part
-  size-past h = sym (ap length (ap (take n) (drop-of-length-le f h) ∙ take-nil n))
-
-  pub size-rest : length f - at < n → length f - at ≡ length (part f at n)
-  unfolding part
-  size-rest h =
-      let d = length-drop at f in
-      let k : length (drop at f) ≤ n = omega arith in
-      sym (ap length (take-all n (drop at f) k) ∙ d)
-
-  pub size-all : at < length f → n ≤ length f - at → n ≡ length (part f at n)
-  unfolding part
-  size-all h g = let k : n ≤ length (drop at f) = omega (arith, length-drop at f) in sym (length-take-le n (drop at f) k)
-
-  pub size-most : (length (part f at n) ≤ n) × (length (part f at n) ≤ length f - at)
-  size-most = go (decLe (length f) at) (decLe n (length f - at))
-    where
-      go : Dec (length f ≤ at) → Dec (n ≤ length f - at) → (length (part f at n) ≤ n) × (length (part f at n) ≤ length f - at)
-      go (yes h) b = let e = size-past h in (omega arith, omega arith)
-      go (no h) (yes g) = let e = size-all (omega arith) g in (omega arith, omega arith)
-      go (no h) (no g) = let e = size-rest (omega arith) in (omega arith, omega arith)
-
-  -- all that there is
-  pub part-cut : (m : ℕ) → m ≡ length (part f at n) → part f at m ≡ part f at n
-  unfolding part
-  part-cut m e = ap (λ (k : ℕ). take k (drop at f)) e ∙ cut n (drop at f)
-    where
-      cut : (k : ℕ) (s : List ℕ) → take (length (take k s)) s ≡ take k s
-      cut zero s = refl
-      cut (suc k) [] = refl
-      cut (suc k) (b ∷ s) = ap (λ (l : List ℕ). b ∷ l) (cut k s)
-
-  -- its first byte, and the rest
+  -- the first byte of a part, and the rest
   pub part-first : at < length f → 0 < n → part f at n ≡ getD f at 0 ∷ part f (at + 1) (n - 1)
   unfolding part
   part-first h g =
@@ -62,8 +28,8 @@ module _ (f : List ℕ) (at n : ℕ) where
   unfolding part
   part-behind k h =
       let s = drop at f in
-      let p : n ≡ k + (n - k) = omega (arith, size-most .0) in
-      let l : length (take k s) ≡ k = length-take-le k s (omega (arith, size-most .1, length-drop at f)) in
+      let p : n ≡ k + (n - k) = omega (arith, size-most f at n .0) in
+      let l : length (take k s) ≡ k = length-take-le k s (omega (arith, size-most f at n .1, length-drop at f)) in
       ap (λ (m : ℕ). drop k (take m s)) p ∙ ap (drop k) (take-add k (n - k) s) ∙ drop-at (take k s) (take (n - k) (drop k s)) k l
       ∙ ap (take (n - k)) (drop-drop k at f)
 

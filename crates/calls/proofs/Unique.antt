@@ -26,9 +26,6 @@ use Rattle.calls.specs.Waiting.{pending}
 use Rattle.calls.proofs.Trims.{part-behind}
 
 -- ---- texts
-pub part-size : (f : List ℕ) (at n r s : ℕ) → r ≡ length (part f at n) → s ≡ length (part f at n) → r ≡ s
-part-size f at n = equation (length (part f at n))
-
 pub begins-part : (f : List ℕ) (at n : ℕ) (w : List ℕ) (r s : Bool) → r ≡ begins w (part f at n) → s ≡ begins w (part f at n) → r ≡ s
 begins-part f at n w = equation (begins w (part f at n))
 

@@ -1,5 +1,5 @@
 // Hexadecimal numbers of 64 bits, as `from_str_radix` reads them.
-use crate::parts::part_size;
+use words::part_size;
 ghost use mathlib.Core.Path.{_≡_};
 ghost use mathlib.Core.Bool.{_&&_};
 ghost use mathlib.Core.Option.{some};

@@ -96,14 +96,11 @@ module _ (t : List Member) (p : Pair) where
   rootRight = find t (p .right)
 
   module _ (ready : Each (λ x. has t (x .root) ≡ true) t) (here : Here t p) where
-    left-in : has t rootLeft ≡ true
-    left-in = find-root (λ v. has t v ≡ true) t (p .left) ready (here .0)
-
-    right-in : has t rootRight ≡ true
-    right-in = find-root (λ v. has t v ≡ true) t (p .right) ready (here .1)
+    root-in : (v : Value) → has t v ≡ true → has t (find t v) ≡ true
+    root-in v = find-root (λ v. has t v ≡ true) t v ready
 
     both-in : (has t (lesser rootLeft rootRight) ≡ true) × (has t (greater rootLeft rootRight) ≡ true)
-    both-in = of-both (λ v. has t v ≡ true) rootLeft rootRight left-in right-in
+    both-in = of-both (λ v. has t v ≡ true) rootLeft rootRight (root-in (p .left) (here .0)) (root-in (p .right) (here .1))
 
     pub find-union : (v : Value) → find (union t p) v ≡ cond (eqv (find t v) (greater rootLeft rootRight)) (lesser rootLeft rootRight) (find t v)
     unfolding union

@@ -21,7 +21,7 @@ use Rattle.passes.specs.declared.sweeps.Passed.{Passed}
 use Rattle.passes.specs.declared.sweeps.Passed.the-variants.{Done, TooDeep}
 use Rattle.passes.specs.Sweeps.{Swept, swept, done, ifTried, doTried, keeps, ifRows, doRows}
 use Rattle.passes.specs.Dropping.{Gathered, gathered, keptRow, keptRows, dropRows}
-use Rattle.passes.proofs.Gathering.{only-length}
+use Rattle.definition.proofs.ListLaws.{only-length}
 use Rattle.coding.proofs.Coding.{Coded}
 use Rattle.coding.proofs.Held.{Held, spans-length}
 use Rattle.coding.proofs.RowSweep.{Ends, over, deeper, pass-same}

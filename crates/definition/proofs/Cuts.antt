@@ -13,7 +13,7 @@ use Rattle.definition.specs.Sorts.{isTok}
 use Rattle.definition.specs.Negate.{beforeGoto, trimFirst, cutLast}
 use Rattle.definition.proofs.Bools.{by-cond}
 use Rattle.definition.proofs.TextLaws.{cut-end}
-use Rattle.definition.proofs.ListLaws.{total-only, total-length, _▸_, end}
+use Rattle.definition.proofs.ListLaws.{_▸_, end}
 use Rattle.definition.proofs.Merge.{size, NoGoto, no-keyword, by-join, size-cons}
 
 -- ---- before the `goto`
@@ -133,6 +133,3 @@ filled-size (t ∷ ts) = go (t .text) refl (filled-size ts)
     go : (x : List ℕ) → t .text ≡ x → size (only filled ts) ≡ size ts → size (cond (not (isEmpty x)) (t ∷ only filled ts) (only filled ts)) ≡ size (t ∷ ts)
     go [] e i = omega (arith, size-cons t ts, ap length e)
     go (a ∷ x) e i = omega (arith, size-cons t ts, size-cons t (only filled ts))
-
-pub filled-length : (m : List Token) → length (only filled m) ≤ length m
-filled-length m = omega (arith, total-only (λ t. 1) filled m, total-length m, total-length (only filled m))

@@ -6,7 +6,7 @@ use mathlib.Core.Option.{Option, none, some}
 use Prim.Native.Nat.{ℕ, _<_, _%_, _^_}
 use native.Mathlib.Nat.{mod-lt}
 use native.Mathlib.Omega.{arith}
-use lib.Dec.{eqb, ltb, leb, lit<}
+use lib.Dec.{eqb, ltb, leb}
 use lib.Bits.{bitAnd, and-self, and-le-l}
 use lib.Pow.{pow-pos}
 use Rattle.definition.specs.Condition.{Code, Setter, Sign, Shown, shown}
@@ -129,11 +129,5 @@ faithful w positive x y fx fy t f q c p r =
     record { itself = itself; negated = flipped-not w x y p ∙ ap not itself }
 
 -- of any operands, wrapped to w bits
-faithful-wrapped : (w : ℕ) → 0 < w → (x y : ℕ) → Faithful w (x % 2 ^ w) (y % 2 ^ w)
+pub faithful-wrapped : (w : ℕ) → 0 < w → (x y : ℕ) → Faithful w (x % 2 ^ w) (y % 2 ^ w)
 faithful-wrapped w positive x y = faithful w positive (x % 2 ^ w) (y % 2 ^ w) (mod-lt x (pow-pos w)) (mod-lt y (pow-pos w))
-
-pub faithful-32 : (x y : ℕ) → Faithful 32 (x % 2 ^ 32) (y % 2 ^ 32)
-faithful-32 = faithful-wrapped 32 (lit< tt)
-
-pub faithful-64 : (x y : ℕ) → Faithful 64 (x % 2 ^ 64) (y % 2 ^ 64)
-faithful-64 = faithful-wrapped 64 (lit< tt)

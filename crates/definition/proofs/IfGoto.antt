@@ -11,11 +11,11 @@ use Rattle.definition.specs.Tokens.{Token, textual, keyword, symbol, pun
 use Rattle.definition.specs.Lower.{gotoTokens}
 use Rattle.definition.specs.Sorts.{isTok, sortOf}
 use Rattle.definition.specs.Negate.{beforeGoto, tail, trimFirst, cutLast, condOf, negate, openTokens, whileTokens}
-use Rattle.definition.proofs.ListLaws.{each-append, each-only, _▸_, end}
+use Rattle.definition.proofs.ListLaws.{each-append, each-only, only-length, _▸_, end}
 use Rattle.definition.proofs.Merge.{size, NoGoto, nogoto-merge, merge-keyword, size-cons, size-append, size-merge, join-length, merge-length, lone-join}
 use Rattle.definition.proofs.TokenSorts.{ifTokens, open-line, while-line}
 use Rattle.definition.proofs.Fits.{Fit}
-use Rattle.definition.proofs.Cuts.{Starts, Finishes, starts-join, ends-merge, ends-trim, trim-size, cut-size, trim-length, cut-length, trim-nogoto, cut-nogoto, filled, filled-size, filled-length, before-goto}
+use Rattle.definition.proofs.Cuts.{Starts, Finishes, starts-join, ends-merge, ends-trim, trim-size, cut-size, trim-length, cut-length, trim-nogoto, cut-nogoto, filled, filled-size, before-goto}
 use Rattle.definition.proofs.NegateGrowth.{negate-nogoto, negate-size, headed, negate-length}
 
 -- ---- `if (C) goto t;`, merged, and the condition taken out of it
@@ -67,7 +67,7 @@ module _ (c : List Token) (t : List ℕ) (h : NoGoto c) where
   taken-nogoto = each-only filled (cut-nogoto _ finishes (trim-nogoto between starts (nogoto-inside h)))
 
   taken-length : length (taken c) ≤ length between
-  taken-length = omega (arith, filled-length (cutLast (trimFirst between)), cut-length (trimFirst between), trim-length between)
+  taken-length = omega (arith, only-length filled (cutLast (trimFirst between)), cut-length (trimFirst between), trim-length between)
 
   inside-size : size between ≡ size c + 4
   unfolding textOf

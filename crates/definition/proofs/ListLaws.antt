@@ -110,6 +110,9 @@ unfolding total
 total-length [] = refl
 total-length (x ∷ xs) = omega (arith, total-length xs)
 
+pub only-length : {A : Type 0} (p : A → Bool) (xs : List A) → length (only p xs) ≤ length xs
+only-length p xs = omega (arith, total-only (λ x. 1) p xs, total-length xs, total-length (only p xs))
+
 -- ---- zeros
 pub zeros-long : (l : List ℕ) (n : ℕ) → l ≡ replicate n 0 → length l ≡ n
 zeros-long l n e = ap length e ∙ length-replicate n 0

@@ -16,10 +16,6 @@ module _ (f : List ℕ) (b : ℕ) (x : Block) (is : x ≡ blockRecord f b) where
   block-is : viewBlock edition1 f [] (firstPhi f b) (firstStmt f b) x ≡ blockAt edition1 f [] b
   block-is = ap (viewBlock edition1 f [] (firstPhi f b) (firstStmt f b)) is ∙ block-view edition1 f [] b
 
-  pub taken-is : when (blockWord f b 2) (blockLong f b 3) ≡ viewDestination (x .taken)
+  pub edges-are : (when (blockWord f b 2) (blockLong f b 3) ≡ viewDestination (x .taken)) × (when (blockWord f b 5) (blockLong f b 6) ≡ viewDestination (x .fall))
   unfolding viewBlock blockAt
-  taken-is = sym (ap (λ (z : DBlock). z .taken) block-is)
-
-  pub fall-is : when (blockWord f b 5) (blockLong f b 6) ≡ viewDestination (x .fall)
-  unfolding viewBlock blockAt
-  fall-is = sym (ap (λ (z : DBlock). z .fall) block-is)
+  edges-are = (sym (ap (λ (z : DBlock). z .taken) block-is), sym (ap (λ (z : DBlock). z .fall) block-is))

@@ -32,7 +32,7 @@ use Rattle.room.proofs.Laws.{line-ends, written-none}
 use Rattle.lowering.specs.Lowered.{loweringOf, hereAt}
 use Rattle.lowering.proofs.Lines.{left-out, not-out}
 use Rattle.gotos.specs.Written.{markTokens}
-use Rattle.gotos.proofs.Edges.{taken-is, fall-is}
+use Rattle.gotos.proofs.Edges.{edges-are}
 
 -- the same lines, named otherwise
 pub lines-are : (s s₀ : Sheet) (xs ls : List Line) → ls ≡ xs → seenSheet s ≡ seenSheet (writeAll s₀ xs) → seenSheet s ≡ seenSheet (writeAll s₀ ls)
@@ -121,7 +121,7 @@ module _ (E : Edition) (f : List ℕ) (b : ℕ) where
 
     edge-by : edge ≡ orElse (viewDestination (x .fall)) (viewDestination (x .taken))
     unfolding hereAt blockAt
-    edge-by = ap₂ (λ (o p : Option ℕ). orElse o p) (fall-is f b x is) (taken-is f b x is)
+    edge-by = ap₂ (λ (o p : Option ℕ). orElse o p) (edges-are f b x is .1) (edges-are f b x is .0)
 
     pub closing-fall : x .fall .there ≡ true → Closes (some (x .fall .address))
     unfolding orElse

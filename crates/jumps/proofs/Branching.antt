@@ -24,7 +24,7 @@ use Rattle.definition.specs.Tokens.{Line, textual, keyword, symbol, address, pu
 use Rattle.definition.specs.Lower.{gotoTokens, countSet, fallLine, branchIf, tailCall, leave, branchTo, branch, lowerKind}
 use Rattle.definition.specs.Blocks.{lowering}
 use Rattle.records.proofs.Items.{items-few, exprs-fit}
-use Rattle.records.proofs.Laws.{branch-exprs}
+use Rattle.records.proofs.Laws.{kind-exprs}
 use Rattle.ssa.specs.Block.{blockRecord}
 use Rattle.ssa.specs.View.{viewDestination}
 use Rattle.ssa.specs.declared.block.Block.{Block}
@@ -42,7 +42,7 @@ use Rattle.lowering.proofs.Commas.{least-le, take-listed}
 use Rattle.lowering.proofs.Gen.{lowering-returns, lowering-args}
 use Rattle.jumps.proofs.Naming.{name-is}
 use Rattle.gotos.proofs.Using.{uses-are}
-use Rattle.gotos.proofs.Edges.{taken-is}
+use Rattle.gotos.proofs.Edges.{edges-are}
 use Rattle.gotos.proofs.Ends.{lines-are}
 
 -- ---- what a branch gives its parts
@@ -50,7 +50,7 @@ module _ (f : List ℕ) (block i item : ℕ) (at : BranchAt f block i item) wher
   pub args-fit : ((k : ℕ) → Fits w8 (getD f k 0)) → (count x n : ℕ) → x ≡ stmtField f i 6 → n ≡ least count x → item + n < 4294967296
   args-fit bytes count x n e p =
       let few : item + exprItems f i < 4294967296 = exprs-fit f (items-few f bytes (at .own)) i refl (at .here) (at .first) in
-      let all : x ≡ exprItems f i = branch-exprs f i (stmtKind f i) x refl (at .kind) e in
+      let all : x ≡ exprItems f i = kind-exprs f i (stmtKind f i) x refl 4 (at .kind) e in
       omega (arith, least-le count x)
 
 -- ---- the first of a run
@@ -66,7 +66,7 @@ module _ (f : List ℕ) (b i w : ℕ) (own : w ≡ stmtField f i 3) where
 
   pub goal-taken : (x : Block) → (w ≡ 1 → ⊥) → x ≡ blockRecord f b → viewDestination (x .taken) ≡ goalOf f b i
   unfolding goalOf orElse
-  goal-taken x n is = rw (← own, ne-eqb w 1 n) (sym (taken-is f b x is))
+  goal-taken x n is = rw (← own, ne-eqb w 1 n) (sym (edges-are f b x is .0))
 
 -- ---- its lines
 module _ (E : Edition) (f : List ℕ) (b i item count : ℕ) (s s₀ : Sheet) (d : Destination) (goes : viewDestination d ≡ goalOf f b i) where

@@ -30,7 +30,7 @@ use Rattle.conditions.proofs.Pairing.{found-is}
 use Rattle.gotos.specs.Written.{nameOf, stmtLine}
 use Rattle.jumps.specs.Written.{conditionOf, ifTokens, ownOf, aimOf, testTokens, fallTo, fallOf, ifLines}
 use Rattle.render.proofs.Opening.{gen-all}
-use Rattle.gotos.proofs.Edges.{taken-is, fall-is}
+use Rattle.gotos.proofs.Edges.{edges-are}
 use Rattle.lowering.proofs.Lines.{left-out, not-out}
 use Rattle.gotos.proofs.Ends.{lines-are}
 
@@ -38,7 +38,7 @@ use Rattle.gotos.proofs.Ends.{lines-are}
 module _ (f : List ℕ) (b i : ℕ) (x : Block) (is : x ≡ blockRecord f b) where
   aim-by : aimOf f b i ≡ given 0 (orElse (viewDestination (x .taken)) (ownOf f i))
   unfolding aimOf
-  aim-by = ap (λ (o : Option ℕ). given 0 (orElse o (ownOf f i))) (taken-is f b x is)
+  aim-by = ap (λ (o : Option ℕ). given 0 (orElse o (ownOf f i))) (edges-are f b x is .0)
 
   pub aim-taken : x .taken .there ≡ true → x .taken .address ≡ aimOf f b i
   unfolding orElse given
@@ -82,7 +82,7 @@ module _ (E : Edition) (f : List ℕ) (b i : ℕ) where
   module _ (x : Block) (is : x ≡ blockRecord f b) where
     fall-by : fallOf E f b i ≡ fallTo E f b i (viewDestination (x .fall))
     unfolding fallOf
-    fall-by = ap (fallTo E f b i) (fall-is f b x is)
+    fall-by = ap (fallTo E f b i) (edges-are f b x is .1)
 
     pub fall-none : (s : Sheet) → x .fall .there ≡ false → seenSheet s ≡ seenSheet (writeAll s (fallOf E f b i))
     unfolding fallTo

@@ -76,13 +76,9 @@ module _ (f : List ℕ) (bytes : (k : ℕ) → Fits w8 (getD f k 0)) (l d x : Li
   number-is : w .number ≡ firstOf all-right f
   number-is = ap (λ (z : Low). z .number) (p .low) ∙ low-number (length ls) (length ks) (length t) f (firstOf all-right f)
 
-  keys-are : U .keys ≡ replicate (length (T .keys)) 0
+  scratch-are : (U .keys ≡ replicate (length (T .keys)) 0) × (U .offs ≡ replicate (length (T .offs)) 0)
   unfolding cleared zeros
-  keys-are = ap (λ (W : Tables). W .keys) (p .tables)
-
-  offs-are : U .offs ≡ replicate (length (T .offs)) 0
-  unfolding cleared zeros
-  offs-are = ap (λ (W : Tables). W .offs) (p .tables)
+  scratch-are = (ap (λ (W : Tables). W .keys) (p .tables), ap (λ (W : Tables). W .offs) (p .tables))
 
   -- where nothing is refused
   module _ (z : w .number ≡ 0) where
@@ -106,8 +102,8 @@ module _ (f : List ℕ) (bytes : (k : ℕ) → Fits w8 (getD f k 0)) (l d x : Li
 
     two-served : (1536 ≤ length (U .keys)) × (769 ≤ length (U .offs))
     two-served =
-        let k : length (U .keys) ≡ 7696 = zeros-long (U .keys) (length (T .keys)) keys-are ∙ tables-long .0 in
-        let o : length (U .offs) ≡ 7696 = zeros-long (U .offs) (length (T .offs)) offs-are ∙ tables-long .1 in
+        let k : length (U .keys) ≡ 7696 = zeros-long (U .keys) (length (T .keys)) (scratch-are .0) ∙ tables-long .0 in
+        let o : length (U .offs) ≡ 7696 = zeros-long (U .offs) (length (T .offs)) (scratch-are .1) ∙ tables-long .1 in
         (omega (arith, k), omega (arith, o))
 
     gives : Given (linesOf f) ls₁ ks₁ t₁ (take 1536 (U .keys)) (take 769 (U .offs)) (w .lines)
@@ -119,7 +115,7 @@ module _ (f : List ℕ) (bytes : (k : ℕ) → Fits w8 (getD f k 0)) (l d x : Li
         let o : length S ≡ 769 = length-take-le 769 (U .offs) (two-served .1) in
         subst (λ (v : Low). Given (linesOf f) (v .lines) (v .tokens) (v .text) R S (v .count)) (sym lines-are)
         (given-file edition1 f (offsets (read edition1 f)) edition1-text (all-bytes f bytes) (file-passes .four) (file-passes .five) (file-passes .six) (file-passes .eighth)
-        (omega arith) (length ls) (length ks) (length t) R S (front-zeros 1536 (U .keys) (own-zeros (U .keys) (length (T .keys)) keys-are)) (omega (arith, k)) (omega (arith, k)) (omega (arith, o)))
+        (omega arith) (length ls) (length ks) (length t) R S (front-zeros 1536 (U .keys) (own-zeros (U .keys) (length (T .keys)) (scratch-are .0))) (omega (arith, k)) (omega (arith, k)) (omega (arith, o)))
 
     lends : Lends (linesOf f) 1536 l₀ d₀ x₀
     unfolding edition1 linesOf
@@ -139,8 +135,8 @@ module _ (f : List ℕ) (bytes : (k : ℕ) → Fits w8 (getD f k 0)) (l d x : Li
     lines = own-zeros l₀ (length l) (blank .0);
     tokens = own-zeros d₀ (length d) (blank .1);
     text = own-zeros x₀ (length x) (blank .2);
-    rows = own-zeros (U .keys) (length (T .keys)) keys-are;
-    spans = own-zeros (U .offs) (length (T .offs)) offs-are;
+    rows = own-zeros (U .keys) (length (T .keys)) (scratch-are .0);
+    spans = own-zeros (U .offs) (length (T .offs)) (scratch-are .1);
     long = two-served;
     known = λ z. record { low = linesOf f; given = gives z };
   }
@@ -174,6 +170,6 @@ module _ (f : List ℕ) (bytes : (k : ℕ) → Fits w8 (getD f k 0)) (l d x : Li
     low-tokens = blanks .1 ∙ ap (λ (n : ℕ). replicate n 0) e₂;
     low-text = blanks .2 ∙ ap (λ (n : ℕ). replicate n 0) e₃;
     tables =
-        ap (λ (A : List ℕ). twice U A S) (a .rows ∙ sym (own-zeros (U .keys) (length (T .keys)) keys-are))
-        ∙ ap (λ (A : List ℕ). twice U (U .keys) A) (a .spans ∙ sym (own-zeros (U .offs) (length (T .offs)) offs-are)) ∙ p .tables;
+        ap (λ (A : List ℕ). twice U A S) (a .rows ∙ sym (own-zeros (U .keys) (length (T .keys)) (scratch-are .0)))
+        ∙ ap (λ (A : List ℕ). twice U (U .keys) A) (a .spans ∙ sym (own-zeros (U .offs) (length (T .offs)) (scratch-are .1))) ∙ p .tables;
   }

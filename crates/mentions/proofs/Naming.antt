@@ -17,17 +17,12 @@ use Rattle.mentions.specs.Named.{childCount, childAt, rootCount, rootAt}
 
 -- ---- children, by the tag that was read
 module _ (f : List ℕ) (i t : ℕ) (tag : t ≡ exprWord f i 0) where
-  pub bin-count : t ≡ 3 → 2 ≡ childCount f i
-  unfolding childCount
-  bin-count e = rw (sym tag ∙ e)
+  abbrev pub countBy : ℕ → ℕ
+  countBy m = cond (eqb m 3) 2 (cond (eqb m 4) 1 (cond (eqb m 5) 1 0))
 
-  pub un-count : t ≡ 4 → 1 ≡ childCount f i
+  pub tag-count : (m : ℕ) → t ≡ m → countBy m ≡ childCount f i
   unfolding childCount
-  un-count e = rw (sym tag ∙ e)
-
-  pub load-count : t ≡ 5 → 1 ≡ childCount f i
-  unfolding childCount
-  load-count e = rw (sym tag ∙ e)
+  tag-count m e = ap countBy (sym e ∙ tag)
 
   pub no-count : (t ≡ 3 → ⊥) → (t ≡ 4 → ⊥) → (t ≡ 5 → ⊥) → 0 ≡ childCount f i
   unfolding childCount
@@ -66,17 +61,12 @@ children-are f i = go (exprWord f i 0) (exprWord f i) (ℕ-discrete (exprWord f 
 
 -- ---- roots, by the kind that was read
 module _ (f : List ℕ) (i k : ℕ) (kind : k ≡ stmtKind f i) where
-  pub assign-count : k ≡ 1 → 1 ≡ rootCount f i
-  unfolding rootCount
-  assign-count e = rw (sym kind ∙ e)
+  abbrev pub rootsBy : ℕ → ℕ
+  rootsBy m = cond (eqb m 1) 1 (cond (eqb m 2) 2 (cond (eqb m 5) 2 (cond (eqb m 6) (cond (eqb (stmtField f i 0) 1) 1 0) (exprItems f i))))
 
-  pub store-count : k ≡ 2 → 2 ≡ rootCount f i
+  pub kind-count : (m : ℕ) → k ≡ m → rootsBy m ≡ rootCount f i
   unfolding rootCount
-  store-count e = rw (sym kind ∙ e)
-
-  pub flags-count : k ≡ 5 → 2 ≡ rootCount f i
-  unfolding rootCount
-  flags-count e = rw (sym kind ∙ e)
+  kind-count m e = ap rootsBy (sym e ∙ kind)
 
   pub return-count : (v : ℕ) → k ≡ 6 → v ≡ stmtField f i 0 → v ≡ 1 → 1 ≡ rootCount f i
   unfolding rootCount
@@ -91,21 +81,14 @@ module _ (f : List ℕ) (i k : ℕ) (kind : k ≡ stmtKind f i) where
   item-count n a b c d h = rw (← kind, ne-eqb k 1 a, ne-eqb k 2 b, ne-eqb k 5 c, ne-eqb k 6 d) h
 
   module _ (first j n : ℕ) where
-    pub assign-root : k ≡ 1 → n ≡ stmtField f i 2 → n ≡ rootAt f i first j
-    unfolding rootAt
-    assign-root e h = rw (sym kind ∙ e) h
+    abbrev pub rootBy : ℕ → ℕ
+    rootBy m =
+        cond (eqb m 1) (stmtField f i 2)
+        (cond (eqb m 2) (stmtField f i (1 + j)) (cond (eqb m 5) (stmtField f i (1 + j)) (cond (eqb m 6) (stmtField f i 1) (itemWord f (first + j) 0))))
 
-    pub store-root : k ≡ 2 → n ≡ stmtField f i (1 + j) → n ≡ rootAt f i first j
+    pub kind-root : (m : ℕ) → k ≡ m → n ≡ rootBy m → n ≡ rootAt f i first j
     unfolding rootAt
-    store-root e h = rw (sym kind ∙ e) h
-
-    pub flags-root : k ≡ 5 → n ≡ stmtField f i (1 + j) → n ≡ rootAt f i first j
-    unfolding rootAt
-    flags-root e h = rw (sym kind ∙ e) h
-
-    pub return-root : k ≡ 6 → n ≡ stmtField f i 1 → n ≡ rootAt f i first j
-    unfolding rootAt
-    return-root e h = rw (sym kind ∙ e) h
+    kind-root m e h = h ∙ ap rootBy (sym e ∙ kind)
 
     pub item-root : (k ≡ 1 → ⊥) → (k ≡ 2 → ⊥) → (k ≡ 5 → ⊥) → (k ≡ 6 → ⊥) → n ≡ itemWord f (first + j) 0 → n ≡ rootAt f i first j
     unfolding rootAt

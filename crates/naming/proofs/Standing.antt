@@ -30,41 +30,26 @@ stands-first f k = refl
 
 -- ---- what a walk that stands says
 module _ (f : List ℕ) (w : Walk) (p s k : ℕ) (is : w ≡ standing f p s k) where
-  pub stands-phi : w .phi ≡ p
+  pub stands-all : (w .phi ≡ p) × (w .stmt ≡ s) × (w .input ≡ firstInput f p) × (w .item ≡ firstItem f s) × (w .next ≡ k)
   unfolding standing
-  stands-phi = ap (λ (v : Walk). v .phi) is
-
-  pub stands-stmt : w .stmt ≡ s
-  unfolding standing
-  stands-stmt = ap (λ (v : Walk). v .stmt) is
-
-  pub stands-input : w .input ≡ firstInput f p
-  unfolding standing
-  stands-input = ap (λ (v : Walk). v .input) is
-
-  pub stands-item : w .item ≡ firstItem f s
-  unfolding standing
-  stands-item = ap (λ (v : Walk). v .item) is
-
-  stands-next : w .next ≡ k
-  unfolding standing
-  stands-next = ap (λ (v : Walk). v .next) is
+  stands-all =
+      (ap (λ (v : Walk). v .phi) is, ap (λ (v : Walk). v .stmt) is, ap (λ (v : Walk). v .input) is, ap (λ (v : Walk). v .item) is, ap (λ (v : Walk). v .next) is)
 
   pub stands-here : w ≡ standing f (w .phi) (w .stmt) (w .next)
-  stands-here = is ∙ ap₂ (λ (x : ℕ) (v : ℕ). standing f x v k) (sym stands-phi) (sym stands-stmt) ∙ ap (standing f (w .phi) (w .stmt)) (sym stands-next)
+  stands-here = is ∙ ap₂ (λ (x : ℕ) (v : ℕ). standing f x v k) (sym (stands-all .0)) (sym (stands-all .1)) ∙ ap (standing f (w .phi) (w .stmt)) (sym (stands-all .4))
 
   -- at another statement
   pub stands-on : (t r m : ℕ) → r ≡ firstItem f t → made (w .phi) t (w .input) r m ≡ standing f p t m
-  stands-on t r m e = ap (λ (x : ℕ). made x t (w .input) r m) stands-phi ∙ stands-made f p t (w .input) r m stands-input e
+  stands-on t r m e = ap (λ (x : ℕ). made x t (w .input) r m) (stands-all .0) ∙ stands-made f p t (w .input) r m (stands-all .2) e
 
 -- ---- a block
 module _ (f : List ℕ) (own : owned f ≡ true) (b : ℕ) (here : b < size f blocks) (w : Walk) (is : w ≡ standing f (firstPhi f b) (firstStmt f b) (w .next)) where
   pub phis-inside : (m : ℕ) → m ≡ blockPhis f b → w .phi + m ≤ size f phis
-  phis-inside m e = omega (arith, stands-phi f w (firstPhi f b) (firstStmt f b) (w .next) is, parts-below f own b here)
+  phis-inside m e = omega (arith, stands-all f w (firstPhi f b) (firstStmt f b) (w .next) is .0, parts-below f own b here)
 
   pub stmts-inside : (v : Walk) (p m : ℕ) → v ≡ standing f p (w .stmt) (v .next) → m ≡ blockStmts f b → v .stmt + m ≤ size f statements
   stmts-inside v p m d e =
-      omega (arith, stands-stmt f w (firstPhi f b) (firstStmt f b) (w .next) is, stands-stmt f v p (w .stmt) (v .next) d, parts-below f own b here)
+      omega (arith, stands-all f w (firstPhi f b) (firstStmt f b) (w .next) is .1, stands-all f v p (w .stmt) (v .next) d .1, parts-below f own b here)
 
   pub block-went : (K : Known) (n s n′ s′ n″ s″ : List ℕ) (v r : Walk) (m l : ℕ) → m ≡ blockPhis f b → l ≡ blockStmts f b
       → Went f K n s n′ s′ w v (w .phi + m) (w .stmt) (gather (phiSpots f) (range (w .phi) (w .phi + m - w .phi)))
@@ -72,10 +57,10 @@ module _ (f : List ℕ) (own : owned f ≡ true) (b : ℕ) (here : b < size f bl
       → Went f K n s n″ s″ w r (firstPhi f (b + 1)) (firstStmt f (b + 1)) (blockSpots f b)
   unfolding blockSpots
   block-went K n s n′ s′ n″ s″ v r m l a c x y =
-      let wp = stands-phi f w (firstPhi f b) (firstStmt f b) (w .next) is in
-      let ws = stands-stmt f w (firstPhi f b) (firstStmt f b) (w .next) is in
-      let vp = stands-phi f v (w .phi + m) (w .stmt) (v .next) (x .stands) in
-      let vs = stands-stmt f v (w .phi + m) (w .stmt) (v .next) (x .stands) in
+      let wp = stands-all f w (firstPhi f b) (firstStmt f b) (w .next) is .0 in
+      let ws = stands-all f w (firstPhi f b) (firstStmt f b) (w .next) is .1 in
+      let vp = stands-all f v (w .phi + m) (w .stmt) (v .next) (x .stands) .0 in
+      let vs = stands-all f v (w .phi + m) (w .stmt) (v .next) (x .stands) .1 in
       let next = parts-next f own b in
       let many : w .phi + m - w .phi ≡ blockPhis f b = omega arith in
       let more : v .stmt + l - v .stmt ≡ blockStmts f b = omega arith in

@@ -10,7 +10,7 @@ use native.Mathlib.Decide.{decLe}
 use lib.ListN.{length, getD, take, drop, set, replicate, length-set, length-take, length-drop, take-append-drop, drop-of-length-le}
 use lib.Seq.{take-all, take-length, drop-length, take-at, drop-at, drop-drop, drop-cons, drop-set-lt, take-suc-set, append-snoc, length-take-le, drop-append-add}
 use Rattle.definition.specs.Lists.{only, at}
-use Rattle.definition.proofs.ListLaws.{total-only, total-length}
+use Rattle.definition.proofs.ListLaws.{only-length}
 use Rattle.definition.proofs.Runs.{loop-start}
 use Rattle.outline.specs.Rows.{kindOf}
 use Rattle.outline.specs.Spans.{spansOf, aimedOut}
@@ -89,9 +89,6 @@ module _ (p : ℕ → Bool) where
           ≡ Came R c (cond b (w ∷ ws) ws)
       go R c i f w ws true y n = y
       go R c i f w ws false y n = n
-
-  pub only-length : (xs : List ℕ) → length (only p xs) ≤ length xs
-  only-length xs = omega (arith, total-only (λ x. 1) p xs, total-length xs, total-length (only p xs))
 
 -- zeros in place of the rows dropped
 cleared : (R ws : List ℕ) (m : ℕ) → length ws ≤ m → m ≤ length R

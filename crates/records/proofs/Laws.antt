@@ -1,11 +1,12 @@
 -- Where a word stands, without a sum that leaves 64 bits, a statement's marks by their word, and its items by its kind.
-use mathlib.Core.Path.{_≡_, sym, _∙_}
+use mathlib.Core.Path.{_≡_, sym, ap, _∙_}
+use mathlib.Core.Bool.{cond}
 use mathlib.Core.List.{List}
 use Prim.Native.Nat.{ℕ, _+_, _*_, _/_, _%_, _≤_, _<_}
 use native.Mathlib.Nat.{mul-le-mul}
 use native.Mathlib.Omega.{arith}
 use lib.Dec.{eqb}
-use borrow.Author.Tests.{eq-eqb, ne-eqb}
+use borrow.Author.Tests.{ne-eqb}
 use Rattle.definition.specs.Contents.{offset, place, stmtWord}
 use Rattle.definition.specs.Owners.{stmtKind, stmtField, exprItems, valueItems, items}
 use Rattle.definition.specs.Read.{marked}
@@ -32,31 +33,25 @@ module _ (f : List ℕ) (i w : ℕ) (marks : w ≡ stmtWord f i 2) where
   unfolding marked
   pushed-is = rw marks
 
--- the items of a statement: by the kind k that was read, and the field n
+-- the items of a statement: by the kind k that was read, which is m, and the field n
 module _ (f : List ℕ) (i k n : ℕ) (kind : k ≡ stmtKind f i) where
-  pub call-exprs : k ≡ 3 → n ≡ stmtField f i 2 → n ≡ exprItems f i
-  unfolding exprItems
-  call-exprs e h = rw (eq-eqb (stmtKind f i) 3 (sym kind ∙ e)) h
+  abbrev pub exprField : ℕ → ℕ
+  exprField m = cond (eqb m 3) (stmtField f i 2) (cond (eqb m 4) (stmtField f i 6) (cond (eqb m 7) (stmtField f i 2) 0))
 
-  pub branch-exprs : k ≡ 4 → n ≡ stmtField f i 6 → n ≡ exprItems f i
+  pub kind-exprs : (m : ℕ) → k ≡ m → n ≡ exprField m → n ≡ exprItems f i
   unfolding exprItems
-  branch-exprs e h = rw (sym kind ∙ e) h
-
-  pub other-exprs : k ≡ 7 → n ≡ stmtField f i 2 → n ≡ exprItems f i
-  unfolding exprItems
-  other-exprs e h = rw (sym kind ∙ e) h
+  kind-exprs m e h = h ∙ ap exprField (sym e ∙ kind)
 
   pub no-exprs : (k ≡ 3 → ⊥) → (k ≡ 4 → ⊥) → (k ≡ 7 → ⊥) → 0 ≡ exprItems f i
   unfolding exprItems
   no-exprs a b c = rw (← kind, ne-eqb k 3 a, ne-eqb k 4 b, ne-eqb k 7 c)
 
-  pub call-values : k ≡ 3 → n ≡ stmtField f i 6 → n ≡ valueItems f i
-  unfolding valueItems
-  call-values e h = rw (sym kind ∙ e) h
+  abbrev pub valueField : ℕ → ℕ
+  valueField m = cond (eqb m 3) (stmtField f i 6) (cond (eqb m 7) (stmtField f i 3) 0)
 
-  pub other-values : k ≡ 7 → n ≡ stmtField f i 3 → n ≡ valueItems f i
+  pub kind-values : (m : ℕ) → k ≡ m → n ≡ valueField m → n ≡ valueItems f i
   unfolding valueItems
-  other-values e h = rw (sym kind ∙ e) h
+  kind-values m e h = h ∙ ap valueField (sym e ∙ kind)
 
   pub no-values : (k ≡ 3 → ⊥) → (k ≡ 7 → ⊥) → 0 ≡ valueItems f i
   unfolding valueItems

@@ -5,12 +5,12 @@ use mathlib.Core.List.{List, [], _∷_, _++_}
 use Prim.Native.Nat.{ℕ, zero, suc, _+_, _-_, _≤_, _<_}
 use native.Mathlib.Omega.{arith}
 use lib.Dec.{eqb}
-use lib.ListN.{length, getD, take, drop, length-drop, drop-of-length-le}
-use lib.Seq.{take-nil, take-all, getD-drop}
+use lib.ListN.{length, getD, take, drop, length-drop}
+use lib.Seq.{getD-drop}
 use borrow.Author.Tests.{eq-eqb, ne-eqb}
 use Rattle.definition.specs.Texts.{isEmpty, trimEnd}
 use Rattle.definition.specs.Words.{part}
-use Rattle.render.specs.Trims.{There}
+use Rattle.words.proofs.Parts.{size-most, part-cut}
 
 -- ---- the last byte
 module _ (c : ℕ) where
@@ -43,28 +43,14 @@ module _ (f : List ℕ) (i : ℕ) where
       let p : k ≡ suc j = omega arith in
       rw (p, take-last (drop i f) j (omega (arith, length-drop i f)), getD-drop i f j 0)
 
-  pub there-none : (n : ℕ) → length f ≤ i → There f i n 0
-  unfolding part
-  there-none n h = record { same = rw (drop-of-length-le f h, take-nil n); inside = omega arith }
-
-  pub there-all : (n : ℕ) → length f - i < n → There f i n (length f - i)
-  unfolding part
-  there-all n h = record {
-    same = take-all (length f - i) (drop i f) (omega (arith, length-drop i f)) ∙ sym (take-all n (drop i f) (omega (arith, length-drop i f)));
-    inside = omega arith;
-  }
-
-  pub there-n : (n : ℕ) → n ≤ length f - i → There f i n n
-  there-n n h = record { same = refl; inside = omega arith }
-
   -- ---- the loop: k bytes have the same trimmed text, and the file has them
   pub record Left (n k : ℕ) : Type 0 where
     pub text : trimEnd 115 (part f i k) ≡ trimEnd 115 (part f i n)
     pub inside : k ≤ length f - i
 
   module _ (n k : ℕ) where
-    pub trim-start : There f i n k → Left n k
-    trim-start t = record { text = ap (trimEnd 115) (t .same); inside = t .inside }
+    pub trim-start : k ≡ length (part f i n) → Left n k
+    trim-start e = record { text = ap (trimEnd 115) (part-cut f i n k e); inside = omega (arith, size-most f i n) }
 
     module _ (t : Left n k) where
       -- the byte read is in the file

@@ -5,6 +5,7 @@ use pieces::put::put;
 use records::contents::offset_of;
 use room::out::Out;
 use ssa::parts::Text;
+use words::part_size;
 ghost use mathlib.Core.Path.{_≡_};
 ghost use mathlib.Core.List.{[], _∷_};
 ghost use Rattle.definition.specs.Edition.{Edition};
@@ -13,27 +14,12 @@ ghost use Rattle.definition.specs.Words.{part};
 ghost use Rattle.definition.specs.Contents.{text as textSection, textAt};
 ghost use Rattle.definition.specs.Render.{operator};
 ghost use Rattle.room.specs.Room.{roomOf, emitAll, seen};
-ghost use Rattle.render.specs.Trims.{There};
 
-// How many of n bytes from `from` on the file has.
-fn there(f: &[u8], from: usize, n: usize) -> usize
-    ensures { λ r. ⌜ There (now (f .entry)) from n r ⌝ }
-{
-    if f.len() <= from {
-        return 0;
-    }
-    let most = f.len() - from;
-    if most < n {
-        return most;
-    }
-    n
-}
-
-// How many are left without every trailing `s`.
+// How many of n bytes from `from` on are left without every trailing `s`.
 fn trimmed(f: &[u8], from: usize, n: usize) -> usize
     ensures { λ r. ⌜ part (now (f .entry)) from r ≡ trimEnd 115 (part (now (f .entry)) from n) ⌝ }
 {
-    let mut k = there(f, from, n);
+    let mut k = part_size(f, from, n);
     while k > 0 {
         if f[from + k - 1] != b's' {
             return k;

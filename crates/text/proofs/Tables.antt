@@ -1,5 +1,6 @@
 -- The tables of register names: one test that antt computes over all of them, and the rule at each register from it.
 use mathlib.Core.Path.{_≡_, refl, sym, _∙_}
+use mathlib.Core.Logic.{_⊎_, inl, inr}
 use mathlib.Core.Bool.{true, cond, _&&_}
 use mathlib.Core.List.{List, []}
 use Prim.Native.Nat.{ℕ, _*_, _≤_, _<_}
@@ -62,13 +63,10 @@ module _ (bits v : ℕ) where
       go (yes q) = rw (eq-eqb bits 32 q, le-ltb v 8 (h q))
       go (no q) = rw (ne-eqb bits 32 q)
 
-  pub name-8 : v ≡ 8 → part bytes64 (3 * v) 2 ≡ regName bits v
+  pub name-two : (v ≡ 8) ⊎ (v ≡ 9) → part bytes64 (3 * v) 2 ≡ regName bits v
   unfolding wide
-  name-8 e = by-64 2 (λ q. omega arith) (rw e)
-
-  pub name-9 : v ≡ 9 → part bytes64 (3 * v) 2 ≡ regName bits v
-  unfolding wide
-  name-9 e = by-64 2 (λ q. omega arith) (rw e)
+  name-two (inl e) = by-64 2 (λ q. omega arith) (rw e)
+  name-two (inr e) = by-64 2 (λ q. omega arith) (rw e)
 
   pub name-other : ((bits ≡ 32) → 8 ≤ v) → (v ≡ 8 → ⊥) → (v ≡ 9 → ⊥) → part bytes64 (3 * v) 3 ≡ regName bits v
   unfolding wide

@@ -1,6 +1,7 @@
 -- A list that is filled goes on where it stopped, so that what is put in runs is put at once; begun as zeros and with room for all, it ends as these
 -- numbers with zeros behind. An expression's Use nodes are its children's, which stand below it.
 use mathlib.Core.Path.{_≡_, refl, sym, ap, _∙_}
+use mathlib.Core.Logic.{_⊎_, inl, inr}
 use mathlib.Core.List.{List, [], _∷_, _++_, append-nil}
 use Prim.Native.Nat.{ℕ, suc, _+_, _-_, _≤_, _<_}
 use native.Mathlib.Omega.{arith}
@@ -92,17 +93,14 @@ module _ (f : List ℕ) (b x t : ℕ) (p : Filling) (tag : t ≡ exprWord f x 0)
         put-more p q r (getD (usesBelow f x) i []) (getD (usesBelow f x) j []) g h
         ∙ ap (putAll p) (rw (m, n) (sym (under-is f b x below ∙ rw (sym tag ∙ e))))
 
-    -- of one child
+    -- of one child: that of a one-operand operator, or of a load
     put-child : (i : ℕ) → usesUnder f x i ≡ nodeUses f (usesBelow f x) x → r ≡ putAll p (usesUnder f x i) → r ≡ putAll p (usesUnder f b x)
     put-child i e h = h ∙ ap (putAll p) (e ∙ sym (under-is f b x below))
 
-    pub put-un : (i : ℕ) → t ≡ 4 → i ≡ exprWord f x 3 → r ≡ putAll p (usesUnder f x i) → r ≡ putAll p (usesUnder f b x)
+    pub put-one : (i : ℕ) → ((t ≡ 4) × (i ≡ exprWord f x 3)) ⊎ ((t ≡ 5) × (i ≡ exprWord f x 2)) → r ≡ putAll p (usesUnder f x i) → r ≡ putAll p (usesUnder f b x)
     unfolding nodeUses usesUnder
-    put-un i e m = put-child i (rw (sym tag ∙ e, m))
-
-    pub put-load : (i : ℕ) → t ≡ 5 → i ≡ exprWord f x 2 → r ≡ putAll p (usesUnder f x i) → r ≡ putAll p (usesUnder f b x)
-    unfolding nodeUses usesUnder
-    put-load i e m = put-child i (rw (sym tag ∙ e, m))
+    put-one i (inl (e, m)) = put-child i (rw (sym tag ∙ e, m))
+    put-one i (inr (e, m)) = put-child i (rw (sym tag ∙ e, m))
 
 -- a bound falls with the expression that it bounds
 pub falls-to : (x b t : ℕ) → b ≡ t → x < b → x < t

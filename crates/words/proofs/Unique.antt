@@ -3,8 +3,8 @@ use mathlib.Core.Path.{_≡_, sym, _∙_}
 use mathlib.Core.Bool.{Bool}
 use mathlib.Core.List.{List}
 use Prim.Native.Nat.{ℕ}
-use lib.ListN.{drop}
-use Rattle.definition.specs.Words.{word, long}
+use lib.ListN.{length, drop}
+use Rattle.definition.specs.Words.{word, long, part}
 use Rattle.definition.specs.Texts.{same, begins, contains}
 
 pub word-at : (f : List ℕ) (i r s : ℕ) → r ≡ word f i → s ≡ word f i → r ≡ s
@@ -21,3 +21,6 @@ begins-at w s i a b p q = p ∙ sym q
 
 pub contains-text : (w s : List ℕ) (a b : Bool) → a ≡ contains w s → b ≡ contains w s → a ≡ b
 contains-text w s a b p q = p ∙ sym q
+
+pub part-size : (f : List ℕ) (at n r s : ℕ) → r ≡ length (part f at n) → s ≡ length (part f at n) → r ≡ s
+part-size f at n r s p q = p ∙ sym q

@@ -1,9 +1,9 @@
-// Numbers out of the file's bytes, and texts compared. Total: what is outside the file reads 0.
+// Numbers and parts out of the file's bytes, and texts compared. Total: what is outside the file reads 0.
 ghost use mathlib.Core.Path.{_≡_};
 ghost use Prim.Native.Nat.{_<_};
-ghost use lib.ListN.{drop};
+ghost use lib.ListN.{length, drop};
 ghost use Rattle.definition.specs.Texts.{same, begins, contains};
-ghost use Rattle.definition.specs.Words.{word, long};
+ghost use Rattle.definition.specs.Words.{word, long, part};
 
 fn wide(b: u8) -> u32
     ensures { λ r. ⌜ (r ≡ b) × (r < 256) ⌝ }
@@ -90,4 +90,17 @@ pub fn contains_text(w: &[u8], s: &[u8]) -> bool
         i += 1;
     }
     begins_at(w, s, i)
+}
+
+// How many of n bytes from `at` on there are.
+pub fn part_size(f: &[u8], at: usize, n: usize) -> usize
+    ensures { λ r. ⌜ r ≡ length (part (now (f .entry)) at n) ⌝ }
+{
+    if f.len() <= at {
+        return 0;
+    }
+    if f.len() - at < n {
+        return f.len() - at;
+    }
+    n
 }

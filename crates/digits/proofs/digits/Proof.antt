@@ -1,5 +1,5 @@
 -- With fewer bytes than digits nothing is touched; else digits filled in from the last one down are the numeral.
-use Rattle.digits.proofs.Digits.{digits-short, digits-fit}
+use Rattle.digits.proofs.Numerals.{digits-short, digits-fit}
 use borrow.Author.Needs.{needs}
 use Rattle.digits.proofs.digits.Statement.{statement}
 use Rattle.digits.proofs.digits.Tie as tie

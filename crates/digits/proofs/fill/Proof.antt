@@ -1,5 +1,5 @@
 -- Filling i digits of what is left of v gives at every turn what filling n digits of v gives; with none left it is done.
-use Rattle.digits.proofs.Digits.{remainder-less, fill-turn, fill-end}
+use Rattle.digits.proofs.Numerals.{remainder-less, fill-turn, fill-end}
 use Rattle.digits.specs.Numeral.{tenOf, filled}
 use lib.ListN.{length, length-set}
 use native.Mathlib.Omega.{arith}

@@ -1,5 +1,5 @@
 -- The count and the digits of what is left are one more than all digits; a division makes less of it, and below the base it is one digit.
-use Rattle.digits.proofs.Digits.{Turned, turned-none, turned-more, turned-few, turned-fewer, turned-last, quotient-less}
+use Rattle.digits.proofs.Numerals.{Turned, turned-none, turned-more, turned-few, turned-fewer, turned-last, quotient-less}
 use native.Mathlib.Omega.{arith}
 use Rattle.digits.proofs.width.Statement.{statement}
 use Rattle.digits.proofs.width.Tie as tie

@@ -1,5 +1,5 @@
 -- By the tag that was read: two children of a Bin, one of an Un or a Load, none of anything else.
-use Rattle.mentions.proofs.Naming.{bin-count, un-count, load-count, no-count}
+use Rattle.mentions.proofs.Naming.{tag-count, no-count}
 use borrow.Author.Needs.{needs}
 use Rattle.mentions.proofs.child_count.Statement.{statement}
 use Rattle.mentions.proofs.child_count.Tie as tie
@@ -8,13 +8,13 @@ expr-word-requires : tie.Need-expr-word-requires
 expr-word-requires c κs = search needs
 
 returns : tie.Need-returns
-returns c = bin-count _ _ _ (c .before .expr-word .ensures) (c .if1 .taken)
+returns c = tag-count _ _ _ (c .before .expr-word .ensures) 3 (c .if1 .taken)
 
 returns-2 : tie.Need-returns-2
-returns-2 c = un-count _ _ _ (c .before .before .expr-word .ensures) (c .if2 .taken)
+returns-2 c = tag-count _ _ _ (c .before .before .expr-word .ensures) 4 (c .if2 .taken)
 
 returns-3 : tie.Need-returns-3
-returns-3 c = load-count _ _ _ (c .before .before .before .expr-word .ensures) (c .if3 .taken)
+returns-3 c = tag-count _ _ _ (c .before .before .before .expr-word .ensures) 5 (c .if3 .taken)
 
 returns-4 : tie.Need-returns-4
 returns-4 c = no-count _ _ _ (c .before .before .before .expr-word .ensures) (c .before .before .if1 .left) (c .before .if2 .left) (c .if3 .left)

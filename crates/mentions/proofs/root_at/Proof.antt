@@ -1,7 +1,7 @@
 -- By the kind: a field of an Assign, Store, Flags or Return, else list item k; as k is below the count of roots, the sums fit.
 use native.Mathlib.Omega.{arith}
 use mathlib.Core.Path.{refl}
-use Rattle.mentions.proofs.Naming.{assign-root, store-root, flags-root, return-root, item-root, store-count, flags-count, item-count}
+use Rattle.mentions.proofs.Naming.{kind-root, item-root, kind-count, item-count}
 use borrow.Author.Needs.{needs}
 use Rattle.mentions.proofs.root_at.Statement.{statement}
 use Rattle.mentions.proofs.root_at.Tie as tie
@@ -13,31 +13,31 @@ stmt-field-requires : tie.Need-stmt-field-requires
 stmt-field-requires c κs = search needs
 
 returns : tie.Need-returns
-returns c = assign-root _ _ _ (c .before .before .stmt-kind .ensures) _ _ _ (c .before .if1 .taken) (c .stmt-field .ensures)
+returns c = kind-root _ _ _ (c .before .before .stmt-kind .ensures) _ _ _ 1 (c .before .if1 .taken) (c .stmt-field .ensures)
 
 add-stmt-field : tie.Need-add-stmt-field
-add-stmt-field c = omega (arith, store-count _ _ _ (c .before .before .stmt-kind .ensures) (c .if2 .taken))
+add-stmt-field c = omega (arith, kind-count _ _ _ (c .before .before .stmt-kind .ensures) 2 (c .if2 .taken))
 
 stmt-field-requires-2 : tie.Need-stmt-field-requires-2
-stmt-field-requires-2 c κs = omega (arith, store-count _ _ _ (c .before .before .stmt-kind .ensures) (c .if2 .taken))
+stmt-field-requires-2 c κs = omega (arith, kind-count _ _ _ (c .before .before .stmt-kind .ensures) 2 (c .if2 .taken))
 
 returns-2 : tie.Need-returns-2
-returns-2 c = store-root _ _ _ (c .before .before .before .stmt-kind .ensures) _ _ _ (c .before .if2 .taken) (c .stmt-field2 .ensures)
+returns-2 c = kind-root _ _ _ (c .before .before .before .stmt-kind .ensures) _ _ _ 2 (c .before .if2 .taken) (c .stmt-field2 .ensures)
 
 add-stmt-field-2 : tie.Need-add-stmt-field-2
-add-stmt-field-2 c = omega (arith, flags-count _ _ _ (c .before .before .before .stmt-kind .ensures) (c .if3 .taken))
+add-stmt-field-2 c = omega (arith, kind-count _ _ _ (c .before .before .before .stmt-kind .ensures) 5 (c .if3 .taken))
 
 stmt-field-requires-3 : tie.Need-stmt-field-requires-3
-stmt-field-requires-3 c κs = omega (arith, flags-count _ _ _ (c .before .before .before .stmt-kind .ensures) (c .if3 .taken))
+stmt-field-requires-3 c κs = omega (arith, kind-count _ _ _ (c .before .before .before .stmt-kind .ensures) 5 (c .if3 .taken))
 
 returns-3 : tie.Need-returns-3
-returns-3 c = flags-root _ _ _ (c .before .before .before .before .stmt-kind .ensures) _ _ _ (c .before .if3 .taken) (c .stmt-field3 .ensures)
+returns-3 c = kind-root _ _ _ (c .before .before .before .before .stmt-kind .ensures) _ _ _ 5 (c .before .if3 .taken) (c .stmt-field3 .ensures)
 
 stmt-field-requires-4 : tie.Need-stmt-field-requires-4
 stmt-field-requires-4 c κs = search needs
 
 returns-4 : tie.Need-returns-4
-returns-4 c = return-root _ _ _ (c .before .before .before .before .before .stmt-kind .ensures) _ _ _ (c .before .if4 .taken) (c .stmt-field4 .ensures)
+returns-4 c = kind-root _ _ _ (c .before .before .before .before .before .stmt-kind .ensures) _ _ _ 6 (c .before .if4 .taken) (c .stmt-field4 .ensures)
 
 add-item-word : tie.Need-add-item-word
 add-item-word c = omega (arith, item-count _ _ _ (c .before .before .before .before .stmt-kind .ensures) _ (c .before .before .before .if1 .left) (c .before .before .if2 .left) (c .before .if3 .left) (c .if4 .left) refl)

@@ -1,5 +1,5 @@
 -- By the kind: one, two and two for Assign, Store and Flags, a Return's by its field 0, else the expressions among the items.
-use Rattle.mentions.proofs.Naming.{assign-count, store-count, flags-count, return-count, return-none, item-count}
+use Rattle.mentions.proofs.Naming.{kind-count, return-count, return-none, item-count}
 use borrow.Author.Needs.{needs}
 use Rattle.mentions.proofs.root_count.Statement.{statement}
 use Rattle.mentions.proofs.root_count.Tie as tie
@@ -8,13 +8,13 @@ stmt-kind-requires : tie.Need-stmt-kind-requires
 stmt-kind-requires c κs = search needs
 
 returns : tie.Need-returns
-returns c = assign-count _ _ _ (c .before .stmt-kind .ensures) (c .if1 .taken)
+returns c = kind-count _ _ _ (c .before .stmt-kind .ensures) 1 (c .if1 .taken)
 
 returns-2 : tie.Need-returns-2
-returns-2 c = store-count _ _ _ (c .before .before .stmt-kind .ensures) (c .if2 .taken)
+returns-2 c = kind-count _ _ _ (c .before .before .stmt-kind .ensures) 2 (c .if2 .taken)
 
 returns-3 : tie.Need-returns-3
-returns-3 c = flags-count _ _ _ (c .before .before .before .stmt-kind .ensures) (c .if3 .taken)
+returns-3 c = kind-count _ _ _ (c .before .before .before .stmt-kind .ensures) 5 (c .if3 .taken)
 
 stmt-field-requires : tie.Need-stmt-field-requires
 stmt-field-requires c κs = search needs

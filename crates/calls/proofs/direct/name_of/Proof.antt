@@ -1,7 +1,7 @@
 -- Behind every leading sub_ is what the definition reads: where it spells no number there is no name, else the number's name is looked up.
 use borrow.Author.Needs.{needs}
 use native.Mathlib.Omega.{arith}
-use Rattle.calls.proofs.Trims.{size-most}
+use Rattle.words.proofs.Parts.{size-most}
 use Rattle.calls.proofs.Naming.{index-none, index-found}
 use Rattle.calls.proofs.direct.name_of.Statement.{statement}
 use Rattle.calls.proofs.direct.name_of.Tie as tie

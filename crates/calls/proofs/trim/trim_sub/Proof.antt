@@ -2,7 +2,8 @@
 use borrow.Author.Needs.{needs}
 use native.Mathlib.Omega.{arith}
 use Prim.Native.Nat.{_-_}
-use Rattle.calls.proofs.Trims.{size-most, Going, trim-start, trim-more, trim-done}
+use Rattle.words.proofs.Parts.{size-most}
+use Rattle.calls.proofs.Trims.{Going, trim-start, trim-more, trim-done}
 use Rattle.calls.proofs.trim.trim_sub.Statement.{statement}
 use Rattle.calls.proofs.trim.trim_sub.Tie as tie
 

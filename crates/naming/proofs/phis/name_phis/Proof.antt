@@ -10,7 +10,7 @@ use Rattle.naming.specs.Walk.{walked, phiSpots}
 use Rattle.names.specs.Spots.{known, state}
 use Rattle.definition.proofs.Runs.{lists-turn, lists-end}
 use Rattle.naming.proofs.Small.{input-next, inputs-fit}
-use Rattle.naming.proofs.Standing.{stands-input, stands-item, stands-made}
+use Rattle.naming.proofs.Standing.{stands-all, stands-made}
 use mathlib.Core.Path.{ap}
 use Rattle.naming.proofs.phis.name_phis.Statement.{statement}
 use Rattle.naming.proofs.phis.name_phis.Tie as tie
@@ -22,7 +22,7 @@ abbrev μ-loop : tie.MeasureT-loop
 μ-loop names₀ seen₀ f numbers roots away order at b w input₀ next₀ i₀ names seen input next i = b - i
 
 loop-holds : tie.Need-loop-holds Inv-loop μ-loop
-loop-holds c = (refl, stands-input _ _ _ _ _ (c .before .before .before .before .before .before .before .pre .1 .2), c .before .before .before .before .before .before .before .pre .1 .0, refl, refl)
+loop-holds c = (refl, stands-all _ _ _ _ _ (c .before .before .before .before .before .before .before .pre .1 .2) .2, c .before .before .before .before .before .before .before .pre .1 .0, refl, refl)
 
 name-phi-requires : tie.Need-name-phi-requires Inv-loop μ-loop
 name-phi-requires c κs = let inv = c .before .before .before .loop .inv in (c .before .before .before .before .before .before .before .before .before .before .before .pre .0 .1, inv .1, omega (arith, inv .1, inputs-fit (c .before .before .before .before .before .before .before .before .before .before .before .args .f .now) (c .before .before .before .before .before .before .before .before .before .before .before .pre .0 .0) (c .before .before .before .before .before .before .before .before .shared-slice-known .given) (c .before .before .before .loop .i) (omega (arith, c .before .before .loop-test .taken, c .before .before .before .before .before .before .before .before .before .before .before .pre .1 .1))))
@@ -51,7 +51,7 @@ same-length-2 c = c .before .loop .inv .4
 
 returns : tie.Need-returns Inv-loop μ-loop
 unfolding walked
-returns c = let inv = c .before .loop .inv in let e : c .before .loop .i ≡ c .before .before .before .before .before .before .before .before .before .args .b = omega (arith, inv .2, c .loop-test .left) in record { says = lists-end (walked _) _ (λ S. refl) (λ S x xs. refl) (phiSpots (c .before .before .before .before .before .before .before .before .before .args .f .now)) _ _ _ _ (c .loop-test .left) (inv .0); stands = stands-made _ _ _ _ _ _ (inv .1 ∙ ap (firstInput (c .before .before .before .before .before .before .before .before .before .args .f .now)) e) (stands-item _ _ _ _ _ (c .before .before .before .before .before .before .before .before .before .pre .1 .2)) }
+returns c = let inv = c .before .loop .inv in let e : c .before .loop .i ≡ c .before .before .before .before .before .before .before .before .before .args .b = omega (arith, inv .2, c .loop-test .left) in record { says = lists-end (walked _) _ (λ S. refl) (λ S x xs. refl) (phiSpots (c .before .before .before .before .before .before .before .before .before .args .f .now)) _ _ _ _ (c .loop-test .left) (inv .0); stands = stands-made _ _ _ _ _ _ (inv .1 ∙ ap (firstInput (c .before .before .before .before .before .before .before .before .before .args .f .now)) e) (stands-all _ _ _ _ _ (c .before .before .before .before .before .before .before .before .before .pre .1 .2) .3) }
 
 pub name-phis-spec : {M : Type 1} → statement M
 name-phis-spec =

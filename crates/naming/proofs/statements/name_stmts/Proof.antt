@@ -8,7 +8,7 @@ use Rattle.names.specs.Spots.{known, state}
 use Rattle.naming.specs.Walk.{walked, stmtSpots}
 use Rattle.naming.specs.Given.{standing}
 use Rattle.definition.proofs.Runs.{lists-turn, lists-end}
-use Rattle.naming.proofs.Standing.{stands-item, stands-on}
+use Rattle.naming.proofs.Standing.{stands-all, stands-on}
 use Rattle.naming.proofs.statements.name_stmts.Statement.{statement}
 use Rattle.naming.proofs.statements.name_stmts.Tie as tie
 
@@ -22,10 +22,10 @@ loop-holds : tie.Need-loop-holds Inv-loop μ-loop
 loop-holds c = (refl, c .before .before .before .before .before .before .before .before .pre .1 .2, c .before .before .before .before .before .before .before .before .pre .1 .0, refl, refl)
 
 name-stmt-requires : tie.Need-name-stmt-requires Inv-loop μ-loop
-name-stmt-requires c κs = let inv = c .before .before .before .before .loop .inv in (c .before .before .before .before .before .before .before .before .before .before .before .before .before .pre .0, (omega (arith, c .before .before .if1 .taken, c .before .before .before .before .before .before .before .before .before .before .before .before .before .pre .1 .1), stands-item _ _ _ _ _ (inv .1)))
+name-stmt-requires c κs = let inv = c .before .before .before .before .loop .inv in (c .before .before .before .before .before .before .before .before .before .before .before .before .before .pre .0, (omega (arith, c .before .before .if1 .taken, c .before .before .before .before .before .before .before .before .before .before .before .before .before .pre .1 .1), stands-all _ _ _ _ _ (inv .1) .3))
 
 next-item-requires : tie.Need-next-item-requires Inv-loop μ-loop
-next-item-requires c κs = let inv = c .before .before .before .before .before .before .before .before .before .loop .inv in (c .before .before .before .before .before .before .before .before .before .before .before .before .before .before .before .before .before .before .pre .0 .own, omega (arith, c .before .before .before .before .before .before .before .if1 .taken, c .before .before .before .before .before .before .before .before .before .before .before .before .before .before .before .before .before .before .pre .1 .1), stands-item _ _ _ _ _ (inv .1))
+next-item-requires c κs = let inv = c .before .before .before .before .before .before .before .before .before .loop .inv in (c .before .before .before .before .before .before .before .before .before .before .before .before .before .before .before .before .before .before .pre .0 .own, omega (arith, c .before .before .before .before .before .before .before .if1 .taken, c .before .before .before .before .before .before .before .before .before .before .before .before .before .before .before .before .before .before .pre .1 .1), stands-all _ _ _ _ _ (inv .1) .3)
 
 add-stmt : tie.Need-add-stmt Inv-loop μ-loop
 add-stmt c = omega (arith, c .before .before .before .before .before .before .before .before .before .if1 .taken)

@@ -11,11 +11,11 @@ Inv-loop f from n k₀ k = Left f from n k
 abbrev μ-loop : tie.MeasureT-loop
 μ-loop f from n k₀ k = k
 
-there-requires : tie.Need-there-requires Inv-loop μ-loop
-there-requires c κs = search needs
+part-size-requires : tie.Need-part-size-requires Inv-loop μ-loop
+part-size-requires c κs = search needs
 
 loop-holds : tie.Need-loop-holds Inv-loop μ-loop
-loop-holds c = trim-start _ _ _ _ (c .there .ensures)
+loop-holds c = trim-start _ _ _ _ (c .part-size .ensures)
 
 add-if1 : tie.Need-add-if1 Inv-loop μ-loop
 add-if1 c = omega (arith, c .before .loop .inv .inside)
@@ -47,7 +47,7 @@ trimmed-spec =
     (tie.spec
     Inv-loop
     μ-loop
-    there-requires
+    part-size-requires
     loop-holds
     add-if1
     sub-if1

@@ -1,6 +1,7 @@
 -- By the tag: a Use puts itself, any other what its children put, left first; a child is bounded by x, which is below b, so b falls.
+use mathlib.Core.Logic.{inl, inr}
 use borrow.Author.Needs.{needs}
-use Rattle.uses.proofs.Filling.{put-none, put-use, put-bin, put-un, put-load, put-other, falls-to}
+use Rattle.uses.proofs.Filling.{put-none, put-use, put-bin, put-one, put-other, falls-to}
 use Prim.Native.Nat.{ℕ, _<_}
 use borrow.Fn.Kinds.{In}
 use borrow.Fn.PlainCycle.{Measures, is, falls, and}
@@ -171,7 +172,7 @@ write-uses-returns-4 : (t : ℕ) → write-uses-lts.Need-returns-4 (
   write-uses-below t,
   write-uses.Post,
 ) (write-uses-at t) write-uses.Post
-write-uses-returns-4 t c = put-un _ _ _ _ _ (c .before .before .before .before .before .before .before .before .expr-word .ensures) (c .before .before .before .before .before .before .before .before .before .if1 .left) _ _ (c .before .before .before .before .before .if4 .taken) (c .before .before .before .expr-word4 .ensures) (c .before .before .write-uses3 .ensures)
+write-uses-returns-4 t c = put-one _ _ _ _ _ (c .before .before .before .before .before .before .before .before .expr-word .ensures) (c .before .before .before .before .before .before .before .before .before .if1 .left) _ _ (inl ((c .before .before .before .before .before .if4 .taken), (c .before .before .before .expr-word4 .ensures))) (c .before .before .write-uses3 .ensures)
 
 write-uses-expr-word-requires-5 : (t : ℕ) → write-uses-lts.Need-expr-word-requires-5 (
   expr-word-reads.Asked,
@@ -211,7 +212,7 @@ write-uses-returns-5 : (t : ℕ) → write-uses-lts.Need-returns-5 (
   write-uses-below t,
   write-uses.Post,
 ) (write-uses-at t) write-uses.Post
-write-uses-returns-5 t c = put-load _ _ _ _ _ (c .before .before .before .before .before .before .before .before .before .expr-word .ensures) (c .before .before .before .before .before .before .before .before .before .before .if1 .left) _ _ (c .before .before .before .before .before .if5 .taken) (c .before .before .before .expr-word5 .ensures) (c .before .before .write-uses4 .ensures)
+write-uses-returns-5 t c = put-one _ _ _ _ _ (c .before .before .before .before .before .before .before .before .before .expr-word .ensures) (c .before .before .before .before .before .before .before .before .before .before .if1 .left) _ _ (inr ((c .before .before .before .before .before .if5 .taken), (c .before .before .before .expr-word5 .ensures))) (c .before .before .write-uses4 .ensures)
 
 write-uses-returns-6 : (t : ℕ) → write-uses-lts.Need-returns-6 (
   expr-word-reads.Asked,

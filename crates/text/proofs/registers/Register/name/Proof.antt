@@ -1,5 +1,6 @@
 -- By width and number: a name is a part of its table at three times the number, by a test of all registers; past the last it is empty.
-use Rattle.text.proofs.Tables.{name-32, name-8, name-9, name-other}
+use mathlib.Core.Logic.{inl, inr}
+use Rattle.text.proofs.Tables.{name-32, name-two, name-other}
 use Rattle.leaf.proofs.Leaves.{leaf-as}
 use native.Mathlib.Omega.{arith}
 use mathlib.Core.Logic.{⊎-elim}
@@ -35,7 +36,7 @@ same-length-2 : tie.Need-same-length-2
 same-length-2 c = search needs
 
 returns-2 : tie.Need-returns-2
-returns-2 c = leaf-as (c .before .before .copy-part2 .ensures) (name-8 _ _ (c .before .before .before .before .before .if3 .taken))
+returns-2 c = leaf-as (c .before .before .copy-part2 .ensures) (name-two _ _ (inl (c .before .before .before .before .before .if3 .taken)))
 
 slice-aggregate-copy-part-3 : tie.Need-slice-aggregate-copy-part-3
 slice-aggregate-copy-part-3 c = search needs
@@ -47,7 +48,7 @@ same-length-3 : tie.Need-same-length-3
 same-length-3 c = search needs
 
 returns-3 : tie.Need-returns-3
-returns-3 c = leaf-as (c .before .before .copy-part3 .ensures) (name-9 _ _ (c .before .before .before .before .before .if4 .taken))
+returns-3 c = leaf-as (c .before .before .copy-part3 .ensures) (name-two _ _ (inr (c .before .before .before .before .before .if4 .taken)))
 
 slice-aggregate-copy-part-4 : tie.Need-slice-aggregate-copy-part-4
 slice-aggregate-copy-part-4 c = search needs

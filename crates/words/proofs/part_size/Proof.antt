@@ -1,8 +1,8 @@
 -- Past the file's end no byte is there; where fewer than n are left, these are; else all n are.
 use borrow.Author.Needs.{needs}
-use Rattle.calls.proofs.Trims.{size-past, size-rest, size-all}
-use Rattle.calls.proofs.parts.part_size.Statement.{statement}
-use Rattle.calls.proofs.parts.part_size.Tie as tie
+use Rattle.words.proofs.Parts.{size-past, size-rest, size-all}
+use Rattle.words.proofs.part_size.Statement.{statement}
+use Rattle.words.proofs.part_size.Tie as tie
 
 returns : tie.Need-returns
 returns c = size-past _ _ _ (c .if1 .taken)
