@@ -1,11 +1,11 @@
-// Numbers as text: digits to a base, and behind a constant front `num`, `slot`, labels, raw addresses and pointers.
+// Numbers as text: digits to a base, and behind a constant front `num`, `slot` and pointers.
 use leaf::Wrote;
 use leaf::copy;
 ghost use mathlib.Core.Path.{_≡_};
 ghost use mathlib.Core.List.{_++_};
 ghost use Prim.Native.Nat.{_≤_, _<_};
 ghost use lib.ListN.{length};
-ghost use Rattle.definition.specs.Numbers.{digit as digitOf, HEX, num as numOf, slot as slotOf, label as labelOf, outward as outwardOf};
+ghost use Rattle.definition.specs.Numbers.{digit as digitOf, HEX, num as numOf, slot as slotOf};
 ghost use Rattle.definition.specs.Render.{pointer as pointerOf};
 ghost use Rattle.leaf.specs.Leaf.{Leaf};
 ghost use Rattle.digits.specs.Numeral.{baseOf, tenOf, numeral, filled};
@@ -140,20 +140,6 @@ pub fn slot(dst: &mut [u8], s: u64) -> Wrote
         return behind(dst, b"var_", Radix::Upper, HALF - s);
     }
     behind(dst, b"arg_", Radix::Upper, s - HALF)
-}
-
-// The label of the block that starts at a.
-pub fn label(dst: &mut [u8], a: u64) -> Wrote
-    ensures { λ r. ⌜ Leaf (labelOf a) (now (dst .entry)) r (now (dst .exit)) ⌝ }
-{
-    behind(dst, b"loc_", Radix::Upper, a)
-}
-
-// A raw address outside.
-pub fn outward(dst: &mut [u8], a: u64) -> Wrote
-    ensures { λ r. ⌜ Leaf (outwardOf a) (now (dst .entry)) r (now (dst .exit)) ⌝ }
-{
-    behind(dst, b"*0x", Radix::Lower, a)
 }
 
 // `*(uintN_t *)` for a size in bytes. The end goes first, so that a refusal touches nothing.

@@ -2,9 +2,7 @@
 use crate::fronted::part_behind;
 use digits::Radix;
 use digits::behind;
-use digits::label;
 use digits::num;
-use digits::outward;
 use digits::pointer;
 use digits::slot;
 use leaf::Wrote;
@@ -83,8 +81,8 @@ fn write_made(dst: &mut [u8], m: Made) -> Wrote
     match m {
         Made::Num(c) => num(dst, c),
         Made::Slot(s) => slot(dst, s),
-        Made::Label(a) => label(dst, a),
-        Made::Outward(a) => outward(dst, a),
+        Made::Label(a) => behind(dst, b"loc_", Radix::Upper, a),
+        Made::Outward(a) => behind(dst, b"*0x", Radix::Lower, a),
         Made::Pointer(n) => pointer(dst, n),
         Made::Register(x) => reg_name(dst, x.bits, x.reg),
         Made::Param(k) => behind(dst, b"a", Radix::Decimal, k),
