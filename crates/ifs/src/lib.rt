@@ -17,7 +17,7 @@ ghost use mathlib.Core.Path.{_≡_};
 ghost use Prim.Native.Nat.{_+_, _-_, _<_};
 ghost use lib.ListN.{length};
 ghost use Rattle.passes.specs.Regions.{labelFrom, ifGoal, formedIf};
-ghost use Rattle.passes.specs.Sweeps.{tried, ifTried, swept, sweepRows, ifRows};
+ghost use Rattle.passes.specs.Sweeps.{tried, ifTried, swept, ifRows};
 
 // The row of the label m at depth d - 1, from row i up to n; n where the scan ends without it.
 fn find_label(rows: &[u64], n: usize, i: usize, m: u64, d: u64) -> usize
@@ -90,11 +90,11 @@ fn try_if(rows: &mut [u64], spans: &mut [u64], n: usize, k: usize) -> usize
     1
 }
 
-// Tries each row of the first n, the next row next.
-fn sweep_ifs(rows: &mut [u64], spans: &mut [u64], n: usize) -> Passed
-    ensures { λ r. ⌜ swept r (now (rows .exit)) (now (spans .exit))
-        ≡ sweepRows ifTried _+_ (length (now (rows .entry)) + n) (now (rows .entry)) (now (spans .entry)) 0 n 0 ⌝ }
+// Forms every if that can be formed over the first n rows, each row tried in turn.
+pub fn structure_ifs(rows: &mut [u64], spans: &mut [u64], n: usize) -> Passed
+    ensures { λ r. ⌜ swept r (now (rows .exit)) (now (spans .exit)) ≡ ifRows (now (rows .entry)) (now (spans .entry)) n ⌝ }
 {
+    note(rows, spans, n);
     let mut rest = n;
     let mut regions = 0;
     let mut k = 0;
@@ -111,12 +111,4 @@ fn sweep_ifs(rows: &mut [u64], spans: &mut [u64], n: usize) -> Passed
         rows: rest,
         regions: regions,
     })
-}
-
-// Forms every if that can be formed over the first n rows.
-pub fn structure_ifs(rows: &mut [u64], spans: &mut [u64], n: usize) -> Passed
-    ensures { λ r. ⌜ swept r (now (rows .exit)) (now (spans .exit)) ≡ ifRows (now (rows .entry)) (now (spans .entry)) n ⌝ }
-{
-    note(rows, spans, n);
-    sweep_ifs(rows, spans, n)
 }

@@ -20,7 +20,7 @@ ghost use Prim.Native.Nat.{_+_, _-_, _<_};
 ghost use lib.Dec.{eqb};
 ghost use lib.ListN.{length};
 ghost use Rattle.passes.specs.Regions.{backFrom, doGoal, formedDo};
-ghost use Rattle.passes.specs.Sweeps.{tried, doTried, swept, sweepRows, keeps, doRows};
+ghost use Rattle.passes.specs.Sweeps.{tried, doTried, swept, doRows};
 
 // The back edge found last: row j where it is one, or that before.
 fn later(v: u64, j: usize, last: usize) -> usize
@@ -104,11 +104,11 @@ fn try_do(rows: &mut [u64], spans: &mut [u64], n: usize, k: usize) -> usize
     1
 }
 
-// Tries each row of the first n, the next row next.
-fn sweep_do(rows: &mut [u64], spans: &mut [u64], n: usize) -> Passed
-    ensures { λ r. ⌜ swept r (now (rows .exit)) (now (spans .exit))
-        ≡ sweepRows doTried keeps (length (now (rows .entry)) + n) (now (rows .entry)) (now (spans .entry)) 0 n 0 ⌝ }
+// Forms every loop that can be formed over the first n rows, each row tried in turn.
+pub fn structure_do_while(rows: &mut [u64], spans: &mut [u64], n: usize) -> Passed
+    ensures { λ r. ⌜ swept r (now (rows .exit)) (now (spans .exit)) ≡ doRows (now (rows .entry)) (now (spans .entry)) n ⌝ }
 {
+    note(rows, spans, n);
     let mut regions = 0;
     let mut k = 0;
     while k < n {
@@ -123,12 +123,4 @@ fn sweep_do(rows: &mut [u64], spans: &mut [u64], n: usize) -> Passed
         rows: n,
         regions: regions,
     })
-}
-
-// Forms every loop that can be formed over the first n rows.
-pub fn structure_do_while(rows: &mut [u64], spans: &mut [u64], n: usize) -> Passed
-    ensures { λ r. ⌜ swept r (now (rows .exit)) (now (spans .exit)) ≡ doRows (now (rows .entry)) (now (spans .entry)) n ⌝ }
-{
-    note(rows, spans, n);
-    sweep_do(rows, spans, n)
 }
