@@ -12,7 +12,7 @@ use Rattle.definition.specs.Lists.{range, only}
 use Rattle.definition.specs.Tokens.{Token, tok, keyword}
 use Rattle.definition.specs.Sorts.{isTok}
 use Rattle.definition.specs.Negate.{beforeGoto, tail, trimFirst, cutLast, condOf}
-use Rattle.sheet.specs.Buffers.{kindAt, startAt, endAt, textAt, tokenAt, tokensIn}
+use Rattle.sheet.specs.Buffers.{kindAt, startOf, startAt, endAt, textAt, tokenAt, tokensIn}
 use Rattle.sheet.specs.Ranges.{between, SamePlace}
 use Rattle.clips.specs.declared.clip.Clip.{Clip}
 use Rattle.clips.specs.Clip.{clipFrom, clipTo, clipAt, hasText, texts, clip, Opened, Closed}
@@ -33,11 +33,10 @@ module _ (ks : List ℕ) (p q : ℕ) (same : SamePlace ks p q) where
   kind-same x e = rw (← same .number) e
 
   pub end-same : (x : ℕ) → x ≡ endAt ks p → x ≡ endAt ks q
-  unfolding endAt
   end-same x e = rw (← same .number) e
 
   pub token-same : (t : List ℕ) → tokenAt ks t p ≡ tokenAt ks t q
-  unfolding tokenAt textAt kindAt endAt
+  unfolding tokenAt textAt kindAt
   token-same t = rw (same .number, same .start)
 
 -- ---- the ends of a condition's tokens
@@ -60,7 +59,7 @@ module _ (ks : List ℕ) (c : Clip) (k : ℕ) where
 
 -- one token ends where the next begins
 pub clip-chain : (ks : List ℕ) (c : Clip) (k : ℕ) → 1 ≤ k → k + 1 < c .count → clipTo ks c k ≡ clipFrom ks c (k + 1)
-unfolding clipTo clipFrom startAt
+unfolding clipTo clipFrom startOf
 clip-chain ks c k g h =
     let p : c .first + (k + 1) - 1 ≡ c .first + k = omega arith in
     rw (ne-eqb (k + 1) (c .count) (λ z. omega arith), ne-eqb (k + 1) 1 (λ z. omega arith), ne-eqb (c .first + (k + 1)) 0 (λ z. omega arith), p)

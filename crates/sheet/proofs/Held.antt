@@ -17,7 +17,8 @@ use Rattle.definition.proofs.Merge.{size, size-cons, size-append, text-append}
 use Rattle.room.proofs.Proper.{Kind8, Proper}
 use Rattle.room.proofs.Words.{words-length, rows-length, size-one, tokens-snoc}
 use Rattle.sheet.specs.Buffers.{kindAt, startAt, endAt, textAt, tokenAt, tokensIn, firstOf, lastOf, lineIn}
-use Rattle.sheet.proofs.Reading.{start-first, start-later, first-first, first-later}
+use Rattle.sheet.specs.declared.ends.Run.the-variants.{Tokens, Bytes}
+use Rattle.sheet.proofs.Reading.{start-first, start-later}
 
 -- ---- tokens
 abbrev no : Token
@@ -47,7 +48,6 @@ module _ (T B : ℕ) (ts : List Token) (kinds : Each Kind8 ts) where
   number-is j h = padded-at T (tokenWords 0 ts) j (omega (arith, words-length 0 ts)) ∙ word-at 0 ts j h
 
   end-held : (j : ℕ) → j < length ts → endAt K j ≡ size (take (suc j) ts)
-  unfolding endAt
   end-held j h = let n = number-is j h in let k = kinds-at ts kinds j h in omega arith
 
   kind-held : (j : ℕ) → j < length ts → kindAt K j ≡ getD ts j no .kind
@@ -56,10 +56,10 @@ module _ (T B : ℕ) (ts : List Token) (kinds : Each Kind8 ts) where
 
   start-held : (j : ℕ) → j < length ts → startAt K j ≡ size (take j ts)
   unfolding textOf
-  start-held zero h = sym (start-first K 0 refl)
+  start-held zero h = sym (start-first Bytes K 0 refl)
   start-held (suc j) h =
       let p : suc j - 1 ≡ j = omega arith in
-      sym (start-later K (suc j) (size (take (suc j) ts)) (λ z. omega arith) (rw p (sym (end-held j (omega arith)))))
+      sym (start-later Bytes K (suc j) (size (take (suc j) ts)) (λ z. omega arith) (rw p (sym (end-held j (omega arith)))))
 
   -- the text of token j stands behind those of the tokens before it
   text-held : (j : ℕ) → j < length ts → part (padded B (textOf ts)) (size (take j ts)) (length (getD ts j no .text)) ≡ getD ts j no .text
@@ -108,7 +108,6 @@ row-at n (y ∷ xs) (suc i) d h =
     rw (p, q) (row-at (n + length (y .toks)) xs i d (omega arith))
 
 when-held : (a : Option ℕ) → when (hasAddress a) (addressOf a) ≡ a
-unfolding hasAddress addressOf
 when-held none = refl
 when-held (some a) = refl
 
@@ -135,15 +134,14 @@ module _ (L T B : ℕ) (xs : List Line) (proper : Each Proper xs) (d : Line) whe
   row-number i r h g = padded-at L (lineWords 0 xs) (5 * i + r) (omega (arith, rows-length 0 xs)) ∙ sym (getD-drop (5 * i) (lineWords 0 xs) r 0)
 
   last-held : (i : ℕ) → i < length xs → lastOf rows i ≡ length (tokensOf (take (suc i) xs))
-  unfolding lastOf
   last-held i h = row-number i 3 h (omega arith) ∙ ap (λ (l : List ℕ). getD l 3 0) (row-at 0 xs i d h) ∙ omega arith
 
   first-held : (i : ℕ) → i < length xs → firstOf rows i ≡ length (tokensOf (take i xs))
   unfolding tokensOf gather
-  first-held zero h = sym (first-first rows 0 refl)
+  first-held zero h = sym (start-first Tokens rows 0 refl)
   first-held (suc i) h =
       let p : suc i - 1 ≡ i = omega arith in
-      sym (first-later rows (suc i) (length (tokensOf (take (suc i) xs))) (λ z. omega arith) (rw p (sym (last-held i (omega arith)))))
+      sym (start-later Tokens rows (suc i) (length (tokensOf (take (suc i) xs))) (λ z. omega arith) (rw p (sym (last-held i (omega arith)))))
 
   module _ (i : ℕ) (h : i < length xs) where
     abbrev x : Line

@@ -16,7 +16,8 @@ use Rattle.definition.specs.Tokens.{tok}
 use Rattle.definition.specs.Sorts.{isTok}
 use Rattle.definition.specs.Lists.{at}
 use Rattle.definition.proofs.ListLaws.{at-out}
-use Rattle.sheet.specs.Buffers.{kindAt, startAt, endAt, textAt, tokenAt, lastOf, firstOf}
+use Rattle.sheet.specs.Buffers.{endOf, startOf, kindAt, startAt, endAt, textAt, tokenAt}
+use Rattle.sheet.specs.declared.ends.Run.{Run}
 use Rattle.sheet.specs.Ranges.{least, between, SamePlace}
 
 -- ---- ranges
@@ -88,32 +89,16 @@ pub kind-is : (l : List ℕ) (j x : ℕ) → x ≡ at l j → x % 8 ≡ kindAt l
 unfolding kindAt
 kind-is l j x e = rw e
 
-pub end-is : (l : List ℕ) (j x : ℕ) → x ≡ at l j → x / 8 ≡ endAt l j
-unfolding endAt
-end-is l j x e = rw e
+pub start-first : (x : Run) (l : List ℕ) (i : ℕ) → i ≡ 0 → 0 ≡ startOf x l i
+unfolding startOf
+start-first x l i z = rw (eq-eqb i 0 z)
 
-pub start-first : (l : List ℕ) (j : ℕ) → j ≡ 0 → 0 ≡ startAt l j
-unfolding startAt
-start-first l j z = rw (eq-eqb j 0 z)
-
-pub start-later : (l : List ℕ) (j x : ℕ) → (j ≡ 0 → ⊥) → x ≡ endAt l (j - 1) → x ≡ startAt l j
-unfolding startAt
-start-later l j x n e = rw (ne-eqb j 0 n) e
+pub start-later : (x : Run) (l : List ℕ) (i e : ℕ) → (i ≡ 0 → ⊥) → e ≡ endOf x l (i - 1) → e ≡ startOf x l i
+unfolding startOf
+start-later x l i e n h = rw (ne-eqb i 0 n) h
 
 pub line-out : (l : List ℕ) (i k : ℕ) → length l / 5 < i → 0 ≡ at l (5 * i + k)
 line-out l i k h = at-out l (5 * i + k) (omega arith)
-
-pub last-in : (l : List ℕ) (i x : ℕ) → x ≡ at l (5 * i + 3) → x ≡ lastOf l i
-unfolding lastOf
-last-in l i x e = e
-
-pub first-first : (l : List ℕ) (i : ℕ) → i ≡ 0 → 0 ≡ firstOf l i
-unfolding firstOf
-first-first l i z = rw (eq-eqb i 0 z)
-
-pub first-later : (l : List ℕ) (i x : ℕ) → (i ≡ 0 → ⊥) → x ≡ lastOf l (i - 1) → x ≡ firstOf l i
-unfolding firstOf
-first-later l i x n e = rw (ne-eqb i 0 n) e
 
 -- ---- tokens
 module _ (ks t : List ℕ) (j k : ℕ) (w : List ℕ) where
@@ -128,7 +113,7 @@ module _ (ks t : List ℕ) (j k : ℕ) (w : List ℕ) where
 
 -- two places behind all tokens, and the same place
 pub place-past : (ks : List ℕ) (p q : ℕ) → length ks < p → length ks < q → SamePlace ks p q
-unfolding startAt endAt
+unfolding startOf
 place-past ks p q h k = record {
   number = sym (at-out ks p (omega arith)) ∙ at-out ks q (omega arith);
   start =

@@ -8,17 +8,19 @@ use Rattle.definition.specs.Tokens.{tok}
 use Rattle.definition.specs.Sorts.{isTok}
 use Rattle.definition.specs.Lists.{at}
 use Rattle.definition.proofs.Unique.{equation}
-use Rattle.sheet.specs.Buffers.{kindAt, startAt, endAt, tokenAt, firstOf, lastOf}
+use Rattle.sheet.specs.Buffers.{endOf, startOf, kindAt, tokenAt}
+use Rattle.sheet.specs.declared.ends.Run.{Run}
 use Rattle.sheet.specs.Ranges.{least as leastOf, between, SamePlace}
 
 pub kind-at : (ks : List ℕ) (j r s : ℕ) → r ≡ kindAt ks j → s ≡ kindAt ks j → r ≡ s
 kind-at ks j = equation (kindAt ks j)
 
-pub start-at : (ks : List ℕ) (j r s : ℕ) → r ≡ startAt ks j → s ≡ startAt ks j → r ≡ s
-start-at ks j = equation (startAt ks j)
+-- of the tokens of a line, and of the bytes of a token
+pub start-of : (x : Run) (l : List ℕ) (i r s : ℕ) → r ≡ startOf x l i → s ≡ startOf x l i → r ≡ s
+start-of x l i = equation (startOf x l i)
 
-pub end-at : (ks : List ℕ) (j r s : ℕ) → r ≡ endAt ks j → s ≡ endAt ks j → r ≡ s
-end-at ks j = equation (endAt ks j)
+pub end-of : (x : Run) (l : List ℕ) (i r s : ℕ) → r ≡ endOf x l i → s ≡ endOf x l i → r ≡ s
+end-of x l i = equation (endOf x l i)
 
 pub token-is : (ks t : List ℕ) (j k : ℕ) (w : List ℕ) (r s : Bool) → r ≡ isTok (tok k w) (tokenAt ks t j) → s ≡ isTok (tok k w) (tokenAt ks t j) → r ≡ s
 token-is ks t j k w = equation (isTok (tok k w) (tokenAt ks t j))
@@ -28,12 +30,6 @@ place ks p r s a b = record { number = a .number ∙ sym (b .number); start = a 
 
 pub line-number : (l : List ℕ) (i k r s : ℕ) → r ≡ at l (5 * i + k) → s ≡ at l (5 * i + k) → r ≡ s
 line-number l i k = equation (at l (5 * i + k))
-
-pub first-of : (l : List ℕ) (i r s : ℕ) → r ≡ firstOf l i → s ≡ firstOf l i → r ≡ s
-first-of l i = equation (firstOf l i)
-
-pub last-of : (l : List ℕ) (i r s : ℕ) → r ≡ lastOf l i → s ≡ lastOf l i → r ≡ s
-last-of l i = equation (lastOf l i)
 
 pub least : (a b r s : ℕ) → r ≡ leastOf a b → s ≡ leastOf a b → r ≡ s
 least a b = equation (leastOf a b)

@@ -8,13 +8,22 @@ use Rattle.definition.specs.Lists.{range, at}
 use Rattle.definition.specs.Read.{when}
 use Rattle.definition.specs.Tokens.{Token, tok, Line}
 use Rattle.definition.specs.Listing.{lineNumbers}
+use Rattle.sheet.specs.declared.ends.Run.{Run}
+use Rattle.sheet.specs.declared.ends.Run.the-variants.{Tokens, Bytes}
 
--- the bytes of the token at place j end here, and begin where those of the token before it end
-unfoldable pub endAt : List ℕ → ℕ → ℕ
-endAt ks j = at ks j / 8
+-- the tokens of line i and the bytes of the token at place i end here, and begin where those of the one before end
+abbrev pub endOf : Run → List ℕ → ℕ → ℕ
+endOf Tokens ls i = at ls (lineNumbers * i + 3)
+endOf Bytes ks i = at ks i / 8
 
-unfoldable pub startAt : List ℕ → ℕ → ℕ
-startAt ks j = cond (eqb j 0) 0 (endAt ks (j - 1))
+unfoldable pub startOf : Run → List ℕ → ℕ → ℕ
+startOf x l i = cond (eqb i 0) 0 (endOf x l (i - 1))
+
+abbrev pub endAt : List ℕ → ℕ → ℕ
+endAt ks j = endOf Bytes ks j
+
+abbrev pub startAt : List ℕ → ℕ → ℕ
+startAt ks j = startOf Bytes ks j
 
 unfoldable pub kindAt : List ℕ → ℕ → ℕ
 kindAt ks j = at ks j % 8
@@ -30,11 +39,11 @@ unfoldable pub tokensIn : List ℕ → List ℕ → ℕ → ℕ → List Token
 tokensIn ks t a n = map (tokenAt ks t) (range a n)
 
 -- the tokens of line i: from the end of the line before it to its own
-unfoldable pub lastOf : List ℕ → ℕ → ℕ
-lastOf ls i = at ls (lineNumbers * i + 3)
+abbrev pub lastOf : List ℕ → ℕ → ℕ
+lastOf ls i = endOf Tokens ls i
 
-unfoldable pub firstOf : List ℕ → ℕ → ℕ
-firstOf ls i = cond (eqb i 0) 0 (lastOf ls (i - 1))
+abbrev pub firstOf : List ℕ → ℕ → ℕ
+firstOf ls i = startOf Tokens ls i
 
 unfoldable pub lineIn : List ℕ → List ℕ → List ℕ → ℕ → Line
 lineIn ls ks t i = record {

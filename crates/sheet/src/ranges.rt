@@ -4,7 +4,7 @@ use words::contains_text;
 use words::same_text;
 ghost use mathlib.Core.Path.{_≡_};
 ghost use Rattle.definition.specs.Texts.{same, isEmpty, begins, contains};
-ghost use Rattle.sheet.specs.Ranges.{least as leastOf, between};
+ghost use Rattle.sheet.specs.Ranges.{least as leastOf, between, testOf};
 
 pub fn least(a: usize, b: usize) -> usize
     ensures { λ r. ⌜ r ≡ leastOf a b ⌝ }
@@ -24,25 +24,39 @@ fn part(text: &[u8], from: usize, to: usize) -> &[u8]
     &text[s..e]
 }
 
-// Whether the range is w.
+// How a range and a text may be compared: the range is the text, begins with it, or has it somewhere.
+enum Test {
+    Is,
+    Begins,
+    Contains,
+}
+
+fn tested(x: Test, text: &[u8], from: usize, to: usize, w: &[u8]) -> bool
+    ensures { λ r. ⌜ r ≡ testOf x (between (now (text .entry)) from to) (now (w .entry)) ⌝ }
+{
+    match x {
+        Test::Is => same_text(part(text, from, to), w),
+        Test::Begins => begins_at(w, part(text, from, to), 0),
+        Test::Contains => contains_text(w, part(text, from, to)),
+    }
+}
+
 pub fn is_between(text: &[u8], from: usize, to: usize, w: &[u8]) -> bool
     ensures { λ r. ⌜ r ≡ same (between (now (text .entry)) from to) (now (w .entry)) ⌝ }
 {
-    same_text(part(text, from, to), w)
+    tested(Test::Is, text, from, to, w)
 }
 
-// Whether the range begins with w.
 pub fn begins_between(text: &[u8], from: usize, to: usize, w: &[u8]) -> bool
     ensures { λ r. ⌜ r ≡ begins (now (w .entry)) (between (now (text .entry)) from to) ⌝ }
 {
-    begins_at(w, part(text, from, to), 0)
+    tested(Test::Begins, text, from, to, w)
 }
 
-// Whether w stands somewhere in the range.
 pub fn contains_between(text: &[u8], from: usize, to: usize, w: &[u8]) -> bool
     ensures { λ r. ⌜ r ≡ contains (now (w .entry)) (between (now (text .entry)) from to) ⌝ }
 {
-    contains_text(w, part(text, from, to))
+    tested(Test::Contains, text, from, to, w)
 }
 
 // Whether nothing is in the range.

@@ -1,4 +1,7 @@
 // Tokens by their places. Total: behind the last there are tokens of kind 0 with no text.
+use crate::ends::Run;
+use crate::ends::end_of;
+use crate::ends::start_of;
 use crate::ranges::is_between;
 use slices::at_u64;
 ghost use mathlib.Core.Path.{_≡_};
@@ -17,16 +20,13 @@ pub fn kind_at(tokens: &[u64], j: usize) -> u32
 pub fn end_at(tokens: &[u64], j: usize) -> usize
     ensures { λ r. ⌜ r ≡ endAt (now (tokens .entry)) j ⌝ }
 {
-    (at_u64(tokens, j) / 8) as usize
+    end_of(tokens, Run::Bytes, j)
 }
 
 pub fn start_at(tokens: &[u64], j: usize) -> usize
     ensures { λ r. ⌜ r ≡ startAt (now (tokens .entry)) j ⌝ }
 {
-    if j == 0 {
-        return 0;
-    }
-    end_at(tokens, j - 1)
+    start_of(tokens, Run::Bytes, j)
 }
 
 // Whether the token at place j is this one.

@@ -13,6 +13,7 @@ use Rattle.definition.proofs.Plain.{Plain}
 use Rattle.room.proofs.Proper.{Kind8, Proper}
 use Rattle.room.proofs.Words.{words-length, rows-length}
 use Rattle.sheet.specs.Buffers.{startAt, endAt, firstOf, lastOf}
+use Rattle.sheet.specs.declared.ends.Run.the-variants.{Bytes}
 use Rattle.sheet.proofs.Reading.{start-first, start-later}
 use Rattle.sheet.proofs.Held.{held, padded-at, kinds-all}
 use Rattle.clips.specs.Clip.{Rises}
@@ -29,12 +30,11 @@ words-rise n (t ∷ u ∷ us) (k ▸ (i ▸ e)) zero h = omega arith
 words-rise n (t ∷ u ∷ us) (k ▸ e) (suc j) h = words-rise (n + length (t .text)) (u ∷ us) e j (omega arith)
 
 ends-rise : (T : ℕ) {ts : List Token} → Each Kind8 ts → (j : ℕ) → j < length ts → startAt (padded T (tokenWords 0 ts)) j ≤ endAt (padded T (tokenWords 0 ts)) j
-unfolding endAt
-ends-rise T {ts} e zero h = omega (arith, start-first (padded T (tokenWords 0 ts)) 0 refl)
+ends-rise T {ts} e zero h = omega (arith, start-first Bytes (padded T (tokenWords 0 ts)) 0 refl)
 ends-rise T {ts} e (suc j) h =
     let K = padded T (tokenWords 0 ts) in
     let p : suc j - 1 ≡ j = omega arith in
-    let s = start-later K (suc j) (endAt K j) (λ z. omega arith) (ap (endAt K) (sym p)) in
+    let s = start-later Bytes K (suc j) (endAt K j) (λ z. omega arith) (ap (endAt K) (sym p)) in
     let n = words-length 0 ts in
     omega (arith, s, words-rise 0 ts e j h, padded-at T (tokenWords 0 ts) j (omega arith), padded-at T (tokenWords 0 ts) (suc j) (omega arith))
 
@@ -55,7 +55,6 @@ module _ (low : List Line) (L T B : ℕ) (proper : Each Proper low) where
   ks = padded T (tokenWords 0 (tokensOf low))
 
   last-within : (i : ℕ) → i < length low → lastOf ls i ≤ length (tokensOf low)
-  unfolding lastOf
   last-within i h = omega (arith, padded-at L (lineWords 0 low) (5 * i + 3) (omega (arith, rows-length 0 low)), last-word 0 low i h)
 
   line-rises : (i : ℕ) → i < length low → Rises ks (firstOf ls i) (countOf ls i)
