@@ -76,11 +76,11 @@ tests ls = count (λ x. firstIs (keyword (txt "if")) (x .toks)) ls
 
 -- ---- the lent buffers, as numbers
 -- a line's five numbers: whether it has an address, the address, its indent, the end of its tokens, 0
-unfoldable pub hasAddress : Option ℕ → ℕ
+abbrev pub hasAddress : Option ℕ → ℕ
 hasAddress none = 0
 hasAddress (some a) = 1
 
-unfoldable pub addressOf : Option ℕ → ℕ
+abbrev pub addressOf : Option ℕ → ℕ
 addressOf none = 0
 addressOf (some a) = a
 
@@ -159,8 +159,11 @@ resultOf B (refused n) = refusal B n
 resultOf B (listed L) = success B L
 
 -- 1: a lent buffer is not of its length; of the scratch, `ready` says that it is as documented
-unfoldable pub fits : Edition → Lent → Bool
-fits E B = eqb (B .lines) (lineNumbers * E .lent .lines) && eqb (B .tokens) (E .lent .tokens) && eqb (B .text) (E .lent .bytes)
+unfoldable pub fitsIn : Room → Lent → Bool
+fitsIn R B = eqb (B .lines) (lineNumbers * R .lines) && eqb (B .tokens) (R .tokens) && eqb (B .text) (R .bytes)
+
+abbrev pub fits : Edition → Lent → Bool
+fits E B = fitsIn (E .lent) B
 
 unfoldable pub result : Edition → Lent → Bool → List ℕ → Result
 result E B ready f = cond (ready && fits E B) (resultOf B (list E f)) (refusal B 1)

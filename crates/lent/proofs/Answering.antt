@@ -4,11 +4,12 @@ use Rattle.structure.specs.declared.answers.Counts.{Counts}
 use Rattle.structure.specs.declared.answers.Structured.{Structured}
 use Rattle.structure.specs.declared.answers.Structured.the-variants.{TooDeep, Listed}
 use Rattle.lent.specs.declared.answer.Answer.{Answer}
-use Rattle.lent.specs.Answers.{refusedWith, answerOf}
+use Rattle.lent.specs.Answers.{refusedWith, listedWith, answerOf}
 
 pub deep-answer : (s : Structured) (r : Answer) → s ≡ TooDeep → r ≡ refusedWith 9 → r ≡ answerOf s
 unfolding answerOf
 deep-answer s r e h = h ∙ sym (ap answerOf e)
 
-pub listed-answer : (s : Structured) (c : Counts) (r : Answer) → s ≡ Listed c → r ≡ answerOf (Listed c) → r ≡ answerOf s
+pub listed-answer : (s : Structured) (c : Counts) (r : Answer) → s ≡ Listed c → r ≡ listedWith c → r ≡ answerOf s
+unfolding answerOf
 listed-answer s c r e h = h ∙ sym (ap answerOf e)

@@ -2,16 +2,16 @@
 use mathlib.Core.List.{List}
 use Prim.Native.Nat.{ℕ}
 use Rattle.definition.specs.Listing.{Result}
+use Rattle.structure.specs.declared.answers.Counts.{Counts}
 use Rattle.structure.specs.declared.answers.Structured.{Structured}
 use Rattle.structure.specs.declared.answers.Structured.the-variants.{TooDeep, Listed}
 use Rattle.lent.specs.declared.answer.Answer.{Answer}
 
-unfoldable pub refusedWith : ℕ → Answer
+abbrev pub refusedWith : ℕ → Answer
 refusedWith n = record { number = n; lines = 0; tokens = 0; bytes = 0; ifs = 0; loops = 0; tests = 0 }
 
-unfoldable pub answerOf : Structured → Answer
-answerOf TooDeep = refusedWith 9
-answerOf (Listed c) = record {
+abbrev pub listedWith : Counts → Answer
+listedWith c = record {
   number = 0;
   lines = c .lines;
   tokens = c .tokens;
@@ -20,6 +20,10 @@ answerOf (Listed c) = record {
   loops = c .loops;
   tests = c .tests;
 }
+
+unfoldable pub answerOf : Structured → Answer
+answerOf TooDeep = refusedWith 9
+answerOf (Listed c) = listedWith c
 
 -- l, d and x are the lent buffers
 unfoldable pub answered : Answer → List ℕ → List ℕ → List ℕ → Result

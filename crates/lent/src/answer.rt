@@ -2,8 +2,7 @@
 use structure::answers::Counts;
 use structure::answers::Structured;
 ghost use mathlib.Core.Path.{_≡_};
-ghost use Rattle.structure.specs.declared.answers.Structured.the-variants.{Listed};
-ghost use Rattle.lent.specs.Answers.{refusedWith, answerOf};
+ghost use Rattle.lent.specs.Answers.{refusedWith, listedWith, answerOf};
 
 // The number of the refusal with no counts, or 0 with what the listing has.
 #[repr(C)]
@@ -39,7 +38,7 @@ pub fn refused(n: u32) -> Answer
 }
 
 fn listed(c: Counts) -> Answer
-    ensures { λ r. ⌜ r ≡ answerOf (Listed c) ⌝ }
+    ensures { λ r. ⌜ r ≡ listedWith c ⌝ }
 {
     Answer {
         number: 0,

@@ -1,9 +1,10 @@
 // Whether the buffers have their lengths: what lowering writes to, and what the caller reads.
 ghost use mathlib.Core.Path.{_≡_};
 ghost use mathlib.Core.Bool.{cond, _&&_};
+ghost use Prim.Native.Nat.{_*_};
 ghost use Rattle.definition.specs.Edition.{edition1};
-ghost use Rattle.definition.specs.Listing.{fits as fitsOf};
-ghost use Rattle.lent.specs.Lengths.{lentOf, lowFits};
+ghost use Rattle.definition.specs.Listing.{fits as fitsOf, fitsIn, lineNumbers};
+ghost use Rattle.lent.specs.Lengths.{lentOf, lowFits, roomOf};
 
 // A line is five numbers.
 const LOW_LINES: usize = 3840;
@@ -14,11 +15,25 @@ const TOKENS: usize = 6144;
 
 const BYTES: usize = 32768;
 
-// The caller's.
-pub fn fits(lines: usize, tokens: usize, text: usize) -> bool
-    ensures { λ r. ⌜ r ≡ fitsOf edition1 (lentOf lines tokens text) ⌝ }
+// Buffers for lowered lines, or the caller's.
+enum Buffers {
+    LoweredLines,
+    Callers,
+}
+
+fn lines_of(x: Buffers) -> usize
+    ensures { λ r. ⌜ r ≡ lineNumbers * roomOf x .lines ⌝ }
 {
-    if lines != LINES {
+    match x {
+        Buffers::LoweredLines => LOW_LINES,
+        Buffers::Callers => LINES,
+    }
+}
+
+fn fit(x: Buffers, lines: usize, tokens: usize, text: usize) -> bool
+    ensures { λ r. ⌜ r ≡ fitsIn (roomOf x) (lentOf lines tokens text) ⌝ }
+{
+    if lines != lines_of(x) {
         return false;
     }
     if tokens != TOKENS {
@@ -27,17 +42,16 @@ pub fn fits(lines: usize, tokens: usize, text: usize) -> bool
     text == BYTES
 }
 
-// Those for lowered lines.
+pub fn fits(lines: usize, tokens: usize, text: usize) -> bool
+    ensures { λ r. ⌜ r ≡ fitsOf edition1 (lentOf lines tokens text) ⌝ }
+{
+    fit(Buffers::Callers, lines, tokens, text)
+}
+
 pub fn low_fits(lines: usize, tokens: usize, text: usize) -> bool
     ensures { λ r. ⌜ r ≡ lowFits edition1 (lentOf lines tokens text) ⌝ }
 {
-    if lines != LOW_LINES {
-        return false;
-    }
-    if tokens != TOKENS {
-        return false;
-    }
-    text == BYTES
+    fit(Buffers::LoweredLines, lines, tokens, text)
 }
 
 // 1 comes before what the file is refused for.

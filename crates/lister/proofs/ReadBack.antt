@@ -15,7 +15,7 @@ use Rattle.definition.proofs.Drop.{keep}
 use Rattle.room.proofs.Proper.{Proper}
 use Rattle.sheet.specs.Buffers.{lineIn}
 use Rattle.sheet.proofs.Held.{held}
-use Rattle.outline.specs.Rows.{IF-OPEN, CLOSE, DO-OPEN, WHILE-CLOSE, kindOf, originOf, toksOf, lineAt, lineOf, linesOf}
+use Rattle.outline.specs.Rows.{IF-OPEN, CLOSE, DO-OPEN, WHILE-CLOSE, originOf, toksOf, lineAt, lineOf, linesOf}
 use Rattle.sorts.specs.Sorted.{linesIn}
 use Rattle.sorts.proofs.Ranges.{below-is}
 use Rattle.structure.proofs.Origins.{Below}
@@ -31,19 +31,19 @@ module _ (x : Line) (p : Proper x) where
   raise-proper = record { once = p .once; kinds = p .kinds }
 
   opened-proper : Proper (opened x)
-  unfolding lineOf lineAt kindOf originOf toksOf
+  unfolding lineOf lineAt toksOf
   opened-proper = let q = remade IF-OPEN (omega arith) in record { once = q .once; kinds = q .kinds }
 
   closer-proper : (d : ℕ) → Proper (closer d)
-  unfolding lineOf lineAt kindOf originOf
+  unfolding lineOf lineAt
   closer-proper d = let q = remade CLOSE (omega arith) in record { once = q .once; kinds = q .kinds }
 
   do-proper : Proper (doLine x)
-  unfolding lineOf lineAt kindOf originOf toksOf
+  unfolding lineOf lineAt toksOf
   do-proper = let q = remade DO-OPEN (omega arith) in record { once = q .once; kinds = q .kinds }
 
   while-proper : (d : ℕ) → Proper (whileLine d x)
-  unfolding lineOf lineAt kindOf originOf toksOf
+  unfolding lineOf lineAt toksOf
   while-proper d = let q = remade WHILE-CLOSE (omega arith) in record { once = q .once; kinds = q .kinds }
 
 kept-if : KeptByIf (Each Proper)

@@ -23,6 +23,7 @@ use Rattle.structure.specs.Lowered.{Given, Lends, lent}
 use Rattle.structure.proofs.EveryFile.{given-file, room-file}
 use Rattle.lent.specs.declared.answer.Answer.{Answer}
 use Rattle.lent.specs.declared.answer.Lowered.{Lowered}
+use Rattle.lent.proofs.Fitting.{three-long}
 use Rattle.lent.specs.Lengths.{lentOf, lowFits}
 use Rattle.lowered.specs.Lowered.{Low, lowOf, lowIn, linesOf, firstOf, LoweredIn}
 use Rattle.structured.specs.Structured.{Lowers, Answers}
@@ -51,14 +52,6 @@ two-long T h =
     let s = both-true (eqb (length (T .spare)) 7696) _ (n .1) in
     let o = both-true (eqb (length (T .offs)) 7696) _ (s .1) in
     (eqb-true (length (T .keys)) 7696 (k .0), eqb-true (length (T .offs)) 7696 (o .0))
-
--- right lengths of what is lent
-three-long : (l d x : ℕ) → fits edition1 (lentOf l d x) ≡ true → (l ≡ 7680) × (d ≡ 6144) × (x ≡ 32768)
-unfolding fits edition1
-three-long l d x h =
-    let b = both-true (eqb l 7680 && eqb d 6144) (eqb x 32768) h in
-    let a = both-true (eqb l 7680) (eqb d 6144) (b .0) in
-    (eqb-true l 7680 (a .0), eqb-true d 6144 (a .1), eqb-true x 32768 (b .1))
 
 -- the number that lowering answers
 low-number : (L T B : ℕ) (f : List ℕ) (n : ℕ) → lowIn L T B f n .number ≡ n
@@ -92,7 +85,8 @@ module _ (f : List ℕ) (bytes : (k : ℕ) → Fits w8 (getD f k 0)) (l d x : Li
     file-passes = none-refuses all-right f none .1
 
     lengths : (length l₀ ≡ 7680) × (length d₀ ≡ 6144) × (length x₀ ≡ 32768)
-    lengths = three-long (length l₀) (length d₀) (length x₀) (sym right ∙ both-true b _ all-are .0)
+    unfolding edition1
+    lengths = three-long (edition1 .lent) (length l₀) (length d₀) (length x₀) (sym right ∙ both-true b _ all-are .0)
 
     tables-long : (length (T .keys) ≡ 7696) × (length (T .offs) ≡ 7696)
     tables-long = two-long T (both-true (lowFits edition1 (lentOf (length ls) (length ks) (length t))) _ (both-true b _ all-are .1) .1)

@@ -2,13 +2,12 @@
 use mathlib.Core.Path.{_≡_, refl, sym, ap, subst, _∙_}
 use mathlib.Core.Bool.{Bool, true, cond, _&&_}
 use mathlib.Core.List.{List}
-use Prim.Native.Nat.{ℕ, _*_}
+use Prim.Native.Nat.{ℕ}
 use native.Mathlib.Omega.{arith}
-use lib.Dec.{eqb}
 use lib.ListN.{length, getD, replicate}
 use mir.Syntax.{w8}
 use mir.Val.{Fits}
-use borrow.Author.Tests.{eqb-true, not-false}
+use borrow.Author.Tests.{not-false}
 use Rattle.definition.specs.Edition.{Edition, edition1}
 use Rattle.definition.specs.Contents.{contents, text}
 use Rattle.definition.specs.Shape.{adjoin, owned, shaped, refused2, refused3, refused4}
@@ -18,7 +17,7 @@ use Rattle.definition.specs.Classes.{find, classes}
 use Rattle.definition.specs.Inline.{readsOf, inline}
 use Rattle.definition.specs.Values.{within}
 use Rattle.definition.specs.Blocks.{readRoots}
-use Rattle.definition.specs.Listing.{checked, lineNumbers}
+use Rattle.definition.specs.Listing.{checked}
 use Rattle.definition.proofs.Bools.{both-true, passed}
 use Rattle.definition.proofs.ListLaws.{own-zeros}
 use Rattle.places.specs.Keys.{keyOf, placesOf, keyed}
@@ -32,6 +31,7 @@ use Rattle.lower.specs.Given.{Lowers}
 use Rattle.tables.specs.Tables.{Tables, most}
 use Rattle.tables.specs.Filled.{Filled}
 use Rattle.tables.proofs.Handed.{chosen, file-checked, file-sound, numbers-long, labels-long, numbers-are, offs-are, live-are, phi-are, roots-are, places-are, names-are, marked-are}
+use Rattle.lent.proofs.Fitting.{three-long}
 use Rattle.lent.specs.Lengths.{lentOf, lowFits}
 use Rattle.lowered.specs.Passed.{Passes}
 use Rattle.lowered.proofs.Rereading.{read-again}
@@ -101,15 +101,6 @@ module _ (f : List ℕ) (bytes : (j : ℕ) → Fits w8 (getD f j 0)) (T T′ : T
     targets = subst (λ (m : ℕ). Labels f m (T′ .labels)) (sym labels-most) (marked-are f T T′ p .labelled);
   }
 
--- ---- what is written to
-three-long : (l k x : ℕ) → lowFits edition1 (lentOf l k x) ≡ true
-    → (l ≡ lineNumbers * edition1 .lowered .lines) × (k ≡ edition1 .lowered .tokens) × (x ≡ edition1 .lowered .bytes)
-unfolding lowFits
-three-long l k x h =
-    let a = both-true (eqb l (lineNumbers * edition1 .lowered .lines) && eqb k (edition1 .lowered .tokens)) (eqb x (edition1 .lowered .bytes)) h in
-    let b = both-true (eqb l (lineNumbers * edition1 .lowered .lines)) (eqb k (edition1 .lowered .tokens)) (a .0) in
-    (eqb-true _ _ (b .0), eqb-true _ _ (b .1), eqb-true _ _ (a .1))
-
 -- ---- n is the refusal so far: 0 only where both tests hold and s is 0
 module _ (ready fit : Bool) (f : List ℕ) (bytes : (j : ℕ) → Fits w8 (getD f j 0)) (s n : ℕ) (T T′ : Tables) (l₀ k₀ x₀ l k x : List ℕ) where
   pub passes : (l ≡ replicate (length l₀) 0) × (k ≡ replicate (length k₀) 0) × (x ≡ replicate (length x₀) 0) → Filled f s T T′
@@ -119,6 +110,6 @@ module _ (ready fit : Bool) (f : List ℕ) (bytes : (j : ℕ) → Fits w8 (getD 
     no-lines = own-zeros l (length l₀) (z .0);
     no-tokens = own-zeros k (length k₀) (z .1);
     no-text = own-zeros x (length x₀) (z .2);
-    room = λ e. three-long (length l) (length k) (length x) (sym a ∙ both-true ready fit (chosen (ready && fit) s (sym e ∙ b) .0) .1);
+    room = λ e. three-long (edition1 .lowered) (length l) (length k) (length x) (sym a ∙ both-true ready fit (chosen (ready && fit) s (sym e ∙ b) .0) .1);
     given = λ e. lowers f bytes T T′ ns ls (subst (λ (m : ℕ). Filled f m T T′) (chosen (ready && fit) s (sym e ∙ b) .1) p);
   }

@@ -30,13 +30,13 @@ front-back k R e z q = ap (λ (a : List ℕ). a ++ drop k R) (q ∙ sym (front-z
 
 -- the answer in numbers is structuring's
 as-numbers : (s : Structured) (l d x : List ℕ) → answered (answerOf s) l d x ≡ resultIn s l d x
-unfolding answered answerOf refusedWith resultIn
+unfolding answered answerOf resultIn
 as-numbers TooDeep l d x = refl
 as-numbers (Listed c) l d x = refl
 
 -- a refusal over zeros
 over-zeros : (l d x R S ls ks t : List ℕ) (w : Lowered) → Lowers l d x R S ls ks t w → (n : ℕ) → answered (refusedWith n) l d x ≡ refusal (lent l d x) n
-unfolding answered refusedWith refusal lent
+unfolding answered refusal lent
 over-zeros l d x R S ls ks t w p n =
     ap (λ (a : List ℕ). answered (refusedWith n) a d x) (p .lines)
     ∙ ap (λ (a : List ℕ). answered (refusedWith n) (replicate (length l) 0) a x) (p .tokens)
