@@ -26,13 +26,13 @@ record Parts (w v k x : ℕ) : Type 0 where
   origin : originOf v ≡ originOf w
 
 turned-parts : (w v k : ℕ) → kindOf w < 8 → kindOf w + v ≡ k → k < 9 → Parts w (turned v w) k (indentOf w)
-unfolding kindOf indentOf nameOf originOf turned
+unfolding turned
 turned-parts w v k g e h =
     let q : turned v w ≡ w + v = ap (λ (b : Bool). cond b (w + v) w) (lt-ltb (w % 16) 8 g) in
     record { kind = omega arith; indent = omega arith; name = omega arith; origin = omega arith }
 
 raised-parts : (w : ℕ) → indentOf w < 4095 → Parts w (raised w) (kindOf w) (suc (indentOf w))
-unfolding kindOf indentOf nameOf originOf raised
+unfolding raised
 raised-parts w h =
     let q : raised w ≡ w + 16 = ap (λ (b : Bool). cond b (w + 16) w) (lt-ltb (w / 16 % 4096) 4095 h) in
     record { kind = omega arith; indent = omega arith; name = omega arith; origin = omega arith }
@@ -92,7 +92,7 @@ module _ (ls : List Line) where
     headed-line = by-parts w (headed w) 7 (suc (indentOf w)) headed-parts ∙ ap doLine (sym (itself w 1 e))
 
   close-kind : (w : ℕ) → (kindOf (closeRow w) ≡ 6) × (indentOf (closeRow w) ≡ indentOf w) × (nameOf (closeRow w) ≡ 0)
-  unfolding kindOf indentOf nameOf closeRow
+  unfolding closeRow
   close-kind w = (omega arith, omega arith, omega arith)
 
   pub close-line : (w : ℕ) → lineOf ls (closeRow w) ≡ closer (indentOf w)

@@ -25,7 +25,7 @@ use Rattle.values.proofs.Tables.{key-not-0, decode}
 use Rattle.values.proofs.Placed.{at-stmt}
 use Rattle.sums.specs.Ground.{Ground}
 use Rattle.sums.proofs.Naming.{stmt-inside}
-use Rattle.flags.specs.Views.{codeEnum, viewCode, viewSetter, sideOf, signOf, printed, shownRecord, shownBy, shownOf, setting, viewSetting}
+use Rattle.flags.specs.Views.{codeEnum, viewCode, viewSetter, sideOf, signOf, shownRecord, shownBy, shownOf, setting, viewSetting}
 use Rattle.flags.specs.declared.codes.Code.{Code}
 use Rattle.flags.specs.declared.comparison.Operands.{Operands}
 use Rattle.flags.specs.declared.comparison.Setter.the-variants.{Result as ByResult}
@@ -123,12 +123,11 @@ sign-back D.Sign.notOver = refl
 
 module _ (c : Shown) where
   shown-there : (o : Option D.Shown) → c ≡ shownRecord o → c .there ≡ true → o ≡ some (viewShown c)
-  unfolding shownRecord printed viewShown
+  unfolding viewShown
   shown-there none e h = absurd (false≢true (sym (ap (λ (z : Shown). z .there) e) ∙ h))
   shown-there (some p) e h = rw (e, side-back (p .lhs), sign-back (p .sign), side-back (p .rhs))
 
   shown-not : (o : Option D.Shown) → c ≡ shownRecord o → c .there ≡ false → o ≡ none
-  unfolding shownRecord printed
   shown-not none e h = refl
   shown-not (some p) e h = absurd (true≢false (sym (ap (λ (z : Shown). z .there) e) ∙ h))
 

@@ -7,7 +7,6 @@ use Rattle.indents.specs.Deeper.{deeperBy}
 use Rattle.indents.proofs.Laws.{deeper-fits}
 
 pub deepened : (w d l r : ℕ) → d ≡ indentOf w → l ≤ d → r ≡ deeperBy (d - l) l → r ≡ indentOf w
-unfolding indentOf
 deepened w d l r e h q =
     let s : l + (d - l) ≡ d = omega arith in
     q ∙ sym (deeper-fits (d - l) l (omega arith)) ∙ s ∙ e

@@ -30,20 +30,20 @@ module _ (ls : List ℕ) (i a b : ℕ) (first : a ≡ firstOf ls i) (last : b �
 
 module _ (ls : List ℕ) (i : ℕ) where
   pub address-none : (x : ℕ) → x ≡ at ls (5 * i + 0) → (x ≡ 1 → ⊥) → optionOf Nowhere ≡ addressIn ls i
-  unfolding optionOf addressIn
+  unfolding addressIn
   address-none x e n =
       let z : 5 * i + 0 ≡ 5 * i = omega arith in
       rw (← (e ∙ ap (at ls) z), ne-eqb x 1 n)
 
   pub address-some : (x y : ℕ) → x ≡ at ls (5 * i + 0) → x ≡ 1 → y ≡ at ls (5 * i + 1) → optionOf (Address y) ≡ addressIn ls i
-  unfolding optionOf addressIn
+  unfolding addressIn
   address-some x y e one f =
       let z : 5 * i + 0 ≡ 5 * i = omega arith in
       rw (← (e ∙ ap (at ls) z), eq-eqb x 1 one, ← f)
 
 module _ (ls : List ℕ) (w k : ℕ) (kind : k ≡ kindOf w) where
   pub row-closes : k ≡ 6 → optionOf Nowhere ≡ rowAddress ls w
-  unfolding optionOf rowAddress
+  unfolding rowAddress
   row-closes e = rw (← kind, eq-eqb k 6 e)
 
   pub row-stands : (i : ℕ) (x : Option ℕ) → (k ≡ 6 → ⊥) → i ≡ originOf w → x ≡ addressIn ls i → x ≡ rowAddress ls w

@@ -22,7 +22,7 @@ use Rattle.ssa.specs.declared.node.Node.the-variants.{Const, Use, Bin, Un, Load
 use Rattle.ssa.specs.Node.{nodeRecord}
 use Rattle.ssa.specs.View.{viewNode}
 use Rattle.ssa.proofs.Views.{node-view}
-use Rattle.flags.specs.Heads.{textIn, noText, numbered, worded, headOf, nodeBelow, sameHeads}
+use Rattle.flags.specs.Heads.{textIn, noText, numbered, headOf, nodeBelow, sameHeads}
 use Rattle.flags.specs.declared.same.Head.{Head}
 
 -- ---- the code's tests
@@ -40,7 +40,7 @@ module _ (f : List ℕ) (m a : ℕ) where
 
   -- a node that has children is below the bound, which falls to it
   pub bound-falls : (z : Node) (x : Head) (b : ℕ) → z ≡ nodeBelow f m a → x ≡ headOf z → (x .children ≡ 0 → ⊥) → m ≡ b → a < b
-  unfolding nodeBelow headOf worded
+  unfolding nodeBelow headOf
   bound-falls z x b p e h q =
       by-test (ltb a m)
       (λ t. omega (arith, ltb-true a m t, q))
@@ -99,7 +99,7 @@ kids s u x y =
 
 module _ (E : Edition) (f : List ℕ) (s u : List Expr) where
   nodes-equal : (x y : Node) → eqe (viewNode E f s x) (viewNode E f u y) ≡ (sameHeads f (text E) (headOf x) (headOf y) && kids s u (headOf x) (headOf y))
-  unfolding eqe eqv viewNode headOf numbered worded sameHeads kids textIn textAt
+  unfolding eqe eqv viewNode headOf numbered sameHeads kids textIn textAt
   nodes-equal (Const c) (Const d) = one-number (eqb c d) _ (texts-none f (text E))
   nodes-equal (Const c) (Use w) = refl
   nodes-equal (Const c) (Bin q) = refl

@@ -25,7 +25,7 @@ unfoldable pub numbered : ℕ → ℕ → ℕ → ℕ → ℕ → Head
 numbered tag low high children left =
     record { tag = tag; low = low; high = high; text = noText; children = children; left = left; right = 0 }
 
-unfoldable pub worded : ℕ → Text → ℕ → ℕ → ℕ → Head
+abbrev pub worded : ℕ → Text → ℕ → ℕ → ℕ → Head
 worded tag s children left right =
     record { tag = tag; low = 0; high = 0; text = s; children = children; left = left; right = right }
 

@@ -78,11 +78,11 @@ signOf D.Sign.notUnder = NotUnder
 signOf D.Sign.over = Over
 signOf D.Sign.notOver = NotOver
 
-unfoldable pub printed : Bool → Side → Sign → Side → Shown
+abbrev pub printed : Bool → Side → Sign → Side → Shown
 printed u x o y = record { there = true; unsigned = u; lhs = x; sign = o; rhs = y }
 
 -- where nothing is, the rest says nothing
-unfoldable pub shownRecord : Option D.Shown → Shown
+abbrev pub shownRecord : Option D.Shown → Shown
 shownRecord none = record { there = false; unsigned = false; lhs = Left; sign = Equal; rhs = Left }
 shownRecord (some p) = printed (p .unsigned) (sideOf (p .lhs)) (signOf (p .sign)) (sideOf (p .rhs))
 

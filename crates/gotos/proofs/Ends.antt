@@ -72,7 +72,7 @@ module _ (E : Edition) (f labels : List ℕ) (b : ℕ) (all : Labels f (length l
   pub label-put : (a : ℕ) (l l′ : List ℕ) (r₀ : Room) (ks ts : List ℕ) (o₁ o : Out) → w ≡ 1 → a ≡ blockLong f b 0
       → seen (roomOf ks ts o₁) ≡ seen (emitAll r₀ (markTokens a)) → Ended l o₁ 0 (optionOf (Address a)) l′ o
       → seenSheet (sheetOf l′ ks ts o) ≡ seenSheet (writeAll (record { lines = l; room = r₀ }) (labelLine (loweringOf E f) (blockLong f b 0)))
-  unfolding labelLine markTokens optionOf
+  unfolding labelLine markTokens
   label-put a l l′ r₀ ks ts o₁ o h p e d =
       rw (marked-so (among (blockLong f b 0) (loweringOf E f .jumps)) label-says h, ← p) (line-ends l l′ r₀ (roomOf ks ts o₁) o 0 (some a) _ e d)
 
@@ -96,7 +96,6 @@ module _ (E : Edition) (f : List ℕ) (b : ℕ) where
     pub closing-put : (l l′ : List ℕ) (r₀ : Room) (ks ts : List ℕ) (o₁ o : Out) → d ≡ false
         → seen (roomOf ks ts o₁) ≡ seen (emitAll r₀ (gotoTokens (symbol (label a)))) → Ended l o₁ 1 (optionOf Nowhere) l′ o
         → seenSheet (sheetOf l′ ks ts o) ≡ seenSheet (writeAll (record { lines = l; room = r₀ }) (closing (loweringOf E f) (hereAt E f b) (some a)))
-    unfolding optionOf
     closing-put l l′ r₀ ks ts o₁ o h e k =
         lines-are (sheetOf l′ ks ts o) (record { lines = l; room = r₀ }) _ _ (not-out _ _ _ d (closing-is a) says h) (line-ends l l′ r₀ (roomOf ks ts o₁) o 1 none _ e k)
 

@@ -22,7 +22,6 @@ module _ (ls xs : List Line) (b d : Bool) (are : ls ≡ cond b [] xs) (says : d 
 
 -- a statement's line ends at its address
 pub ends-at : (l l′ : List ℕ) (o r : Out) (f : List ℕ) (i a : ℕ) → a ≡ stmtLong f i 0 → Ended l o 1 (optionOf (Address a)) l′ r → Ended l o 1 (some (stmtLong f i 0)) l′ r
-unfolding optionOf
 ends-at l l′ o r f i a e d = rw (← e) d
 
 -- one line

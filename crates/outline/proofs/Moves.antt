@@ -105,7 +105,6 @@ module _ (w x : ℕ) (e : x ≡ indentOf w) where
   up-top h = let k : 4095 ≤ indentOf w = omega arith in simp (le-ltb (indentOf w) 4095 k)
 
   pub up-fits : x < 4095 → w < 18446744073709551616 → w + 16 < 18446744073709551616
-  unfolding indentOf
   up-fits h k = omega arith
 
 -- ---- another kind
@@ -119,9 +118,7 @@ module _ (w x v : ℕ) (e : x ≡ kindOf w) where
   turn-top h = let k : 8 ≤ kindOf w = omega arith in simp (le-ltb (kindOf w) 8 k)
 
   pub turn-fits : v < 8 → x < 8 → w < 18446744073709551616 → w + v < 18446744073709551616
-  unfolding kindOf
   turn-fits a h k = omega arith
 
 pub indent-small : (w : ℕ) → indentOf w < 4096
-unfolding indentOf
 indent-small w = omega arith

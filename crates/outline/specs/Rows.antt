@@ -31,16 +31,16 @@ abbrev pub WHILE-CLOSE : ℕ
 WHILE-CLOSE = 8
 
 -- a row's parts. A name is 1 + the lowered line of the label, 0 for a goto that meets no label
-unfoldable pub kindOf : ℕ → ℕ
+abbrev pub kindOf : ℕ → ℕ
 kindOf w = w % 16
 
-unfoldable pub indentOf : ℕ → ℕ
+abbrev pub indentOf : ℕ → ℕ
 indentOf w = w / 16 % 4096
 
-unfoldable pub nameOf : ℕ → ℕ
+abbrev pub nameOf : ℕ → ℕ
 nameOf w = w / 65536 % 16777216
 
-unfoldable pub originOf : ℕ → ℕ
+abbrev pub originOf : ℕ → ℕ
 originOf w = w / 1099511627776
 
 -- the tokens of a row of kind k, of those of its lowered line

@@ -13,7 +13,6 @@ use Rattle.room.proofs.Placing.{ready-sound}
 
 -- full already
 stopped-same : (o : Out) → o .full ≡ true → o ≡ stopped o
-unfolding stopped
 stopped-same o h = ap (λ (b : Bool). record { lines = o .lines; tokens = o .tokens; bytes = o .bytes; start = o .start; full = b }) h
 
 module _ (r : Room) (p : Token) where
@@ -53,7 +52,7 @@ module _ (r : Room) (p : Token) where
       (λ f. ap (λ (b : Bool). cond b r way) f ∙ ap (λ (b : Bool). cond b (placed r p) stop) h)
 
   pub stops-full : fits r (p .kind) (length (p .text)) ≡ false → isFull (emit r p) ≡ true
-  unfolding isFull stopped
+  unfolding isFull
   stops-full h = ap (λ (q : Room). q .out .full) (emit-stops h)
 
   -- a full room stays as it is

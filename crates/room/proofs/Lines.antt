@@ -33,7 +33,7 @@ module _ (l : List ℕ) (o : Out) (n : ℕ) (a : Option ℕ) where
 
   -- no room for the line
   pub end-stops : (r : Out) → o .full ≡ false → length l < 5 * (o .lines + 1) → r ≡ stopped o → Ended l o n a l r
-  unfolding endLine isFull stopped
+  unfolding endLine isFull
   end-stops r f h e = record { whole = λ ks t. rw (f, lt-leb _ _ h, e) }
 
   pub end-fits : (l′ : List ℕ) (has at′ : ℕ) → o .full ≡ false → 5 * (o .lines + 1) ≤ length l

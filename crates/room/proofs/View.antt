@@ -20,8 +20,8 @@ use Rattle.definition.proofs.ListLaws.{Each, _▸_}
 use Rattle.definition.proofs.Merge.{size, size-append, text-append}
 use Rattle.records.proofs.Padded.{padded-set, length-padded}
 use Rattle.room.specs.declared.out.Out.{Out}
-use Rattle.room.specs.Room.{Room, Sheet, roomOf, textMost, isFull, stopped, paste, sound, goesOn, slotAt, isReady, placed, emit, emitAll, lineRow, ended, endLine, writeLine, writeAll, seenSheet}
-use Rattle.room.specs.Blank.{fresh, blank, filled}
+use Rattle.room.specs.Room.{Room, Sheet, roomOf, textMost, isFull, paste, sound, goesOn, slotAt, isReady, placed, emit, emitAll, lineRow, ended, endLine, writeLine, writeAll, seenSheet}
+use Rattle.room.specs.Blank.{blank, filled}
 use Rattle.room.proofs.Placing.{Sound, sound-holds, goes-first, slot-new}
 use Rattle.room.proofs.Emits.{fits-holds, fits-no-place, fits-too-long, emit-fits, stops-full, emit-stays}
 use Rattle.room.proofs.Pastes.{padded-paste}
@@ -206,7 +206,7 @@ module _ (L T B : ℕ) (most : B ≤ textMost) where
         rw (le-leb _ _ lent, w, a, tokens-snoc ls x)
 
     line-stops : 5 * length ls ≤ L → L < 5 * (length ls + 1) → isFull (ended-at .room) ≡ true
-    unfolding endLine isFull stopped
+    unfolding endLine isFull
     line-stops g h =
         let none : length (padded L (lineWords 0 ls)) < 5 * (length ls + 1) = omega (arith, rows-lent g) in
         rw (lt-leb _ _ none)
@@ -247,7 +247,7 @@ module _ (L T B : ℕ) (most : B ≤ textMost) where
       (all-lines (writeLine u x) (ls ++ (x ∷ [])) xs p (one-line ls x u a c))
 
   blank-is : blank L T B ≡ sheetAt L T B []
-  unfolding blank fresh padded lineWords tokenWords tokensOf gather textOf
+  unfolding blank padded lineWords tokenWords tokensOf gather textOf
   blank-is =
       let l : L - 0 ≡ L = omega arith in
       let k : T - 0 ≡ T = omega arith in

@@ -9,7 +9,7 @@ use Rattle.room.specs.declared.out.Out.{Out}
 use Rattle.room.specs.Room.{Sheet, sheetOf}
 
 -- nothing written, not full
-unfoldable pub fresh : Out
+abbrev pub fresh : Out
 fresh = record { lines = 0; tokens = 0; bytes = 0; start = 0; full = false }
 
 -- with L numbers lent for lines, T for tokens and B bytes for the text

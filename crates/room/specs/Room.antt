@@ -29,7 +29,7 @@ abbrev pub sheetOf : List ℕ → List ℕ → List ℕ → Out → Sheet
 sheetOf l k t o = record { lines = l; room = roomOf k t o }
 
 -- full from here on
-unfoldable pub stopped : Out → Out
+abbrev pub stopped : Out → Out
 stopped o = record { lines = o .lines; tokens = o .tokens; bytes = o .bytes; start = o .start; full = true }
 
 unfoldable pub isFull : Room → Bool
@@ -86,7 +86,7 @@ unfoldable pub seen : Room → Option Room
 seen r = cond (isFull r) none (some r)
 
 -- the address that a line stands at
-unfoldable pub optionOf : At → Option ℕ
+abbrev pub optionOf : At → Option ℕ
 optionOf Nowhere = none
 optionOf (Address a) = some a
 

@@ -40,7 +40,7 @@ record Fields (k d m o w : ℕ) : Type 0 where
   origin : originOf w ≡ o
 
 fields : (k d m o : ℕ) → k < 16 → d < 4096 → m < 16777216 → o < 16777216 → Fields k d m o (packed k d m o)
-unfolding kindOf indentOf nameOf originOf packed
+unfolding packed
 fields k d m o hk hd hm ho = record { kind = omega arith; indent = omega arith; name = omega arith; origin = omega arith }
 
 -- ---- names

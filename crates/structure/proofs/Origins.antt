@@ -16,7 +16,7 @@ use Rattle.sheet.specs.Ranges.{least}
 use Rattle.sheet.proofs.Reading.{least-left}
 use Rattle.passes.specs.declared.sweeps.Passed.{Passed}
 use Rattle.passes.specs.declared.sweeps.Passed.the-variants.{Done, TooDeep}
-use Rattle.outline.specs.Rows.{kindOf, indentOf, originOf, lineAt}
+use Rattle.outline.specs.Rows.{originOf, lineAt}
 use Rattle.outline.specs.Spans.{spansOf}
 use Rattle.outline.specs.Forming.{raised, turned, changedIn, inserted}
 use Rattle.passes.specs.Regions.{opened, whiled, headed, closeRow, formedIf, formedDo, ifGoal, doGoal}
@@ -52,23 +52,22 @@ module _ {P : ℕ → Type 0} where
 
 -- ---- origins
 raised-origin : (w : ℕ) → originOf (raised w) ≡ originOf w
-unfolding raised indentOf originOf
+unfolding raised
 raised-origin w = by-cond (λ (v : ℕ). v / 1099511627776 ≡ w / 1099511627776) (ltb (w / 16 % 4096) 4095) (λ e. let h = ltb-true (w / 16 % 4096) 4095 e in omega arith) (λ e. omega arith)
 
 turned-origin : (v : ℕ) → v < 8 → (w : ℕ) → originOf (turned v w) ≡ originOf w
-unfolding turned kindOf originOf
+unfolding turned
 turned-origin v k w = by-cond (λ (u : ℕ). u / 1099511627776 ≡ w / 1099511627776) (ltb (w % 16) 8) (λ e. let h = ltb-true (w % 16) 8 e in omega arith) (λ e. omega arith)
 
 close-origin : (w : ℕ) → originOf (closeRow w) ≡ 0
-unfolding closeRow indentOf originOf
+unfolding closeRow
 close-origin w = omega arith
 
 packed-origin : (k d m o : ℕ) → originOf (packed k d m o) ≤ o
-unfolding packed originOf
+unfolding packed
 packed-origin k d m o = omega arith
 
 zero-origin : originOf 0 ≡ 0
-unfolding originOf
 zero-origin = omega arith
 
 -- the row comes of one of n lines

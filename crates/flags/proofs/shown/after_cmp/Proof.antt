@@ -2,7 +2,7 @@
 use Rattle.definition.specs.Condition.Setter.{cmp}
 use Rattle.flags.proofs.Printing.{shown-as}
 use Rattle.definition.specs.Condition.{shown}
-use Rattle.flags.specs.Views.{viewCode, sideOf, signOf, shownRecord, shownBy}
+use Rattle.flags.specs.Views.{viewCode, sideOf, signOf, shownBy}
 use borrow.Author.Needs.{needs}
 use Rattle.flags.proofs.shown.after_cmp.Statement.{statement}
 use Rattle.flags.proofs.shown.after_cmp.Tie as tie
@@ -86,55 +86,55 @@ nothing-requires : tie.Need-nothing-requires
 nothing-requires c κs = search needs
 
 returns : tie.Need-returns
-unfolding viewCode sideOf signOf shownRecord shownBy shown
+unfolding viewCode sideOf signOf shownBy shown
 returns c = shown-as cmp _ _ _ (c .before .enum-told .given .1) (c .signed .ensures)
 
 returns-2 : tie.Need-returns-2
-unfolding viewCode sideOf signOf shownRecord shownBy shown
+unfolding viewCode sideOf signOf shownBy shown
 returns-2 c = shown-as cmp _ _ _ (c .before .enum-told2 .given .1) (c .signed2 .ensures)
 
 returns-3 : tie.Need-returns-3
-unfolding viewCode sideOf signOf shownRecord shownBy shown
+unfolding viewCode sideOf signOf shownBy shown
 returns-3 c = shown-as cmp _ _ _ (c .before .enum-told3 .given .1) (c .signed3 .ensures)
 
 returns-4 : tie.Need-returns-4
-unfolding viewCode sideOf signOf shownRecord shownBy shown
+unfolding viewCode sideOf signOf shownBy shown
 returns-4 c = shown-as cmp _ _ _ (c .before .enum-told4 .given .1) (c .signed4 .ensures)
 
 returns-5 : tie.Need-returns-5
-unfolding viewCode sideOf signOf shownRecord shownBy shown
+unfolding viewCode sideOf signOf shownBy shown
 returns-5 c = shown-as cmp _ _ _ (c .before .enum-told5 .given .1) (c .signed5 .ensures)
 
 returns-6 : tie.Need-returns-6
-unfolding viewCode sideOf signOf shownRecord shownBy shown
+unfolding viewCode sideOf signOf shownBy shown
 returns-6 c = shown-as cmp _ _ _ (c .before .enum-told6 .given .1) (c .signed6 .ensures)
 
 returns-7 : tie.Need-returns-7
-unfolding viewCode sideOf signOf shownRecord shownBy shown
+unfolding viewCode sideOf signOf shownBy shown
 returns-7 c = shown-as cmp _ _ _ (c .before .enum-told7 .given .1) (c .unsigned .ensures)
 
 returns-8 : tie.Need-returns-8
-unfolding viewCode sideOf signOf shownRecord shownBy shown
+unfolding viewCode sideOf signOf shownBy shown
 returns-8 c = shown-as cmp _ _ _ (c .before .enum-told8 .given .1) (c .unsigned2 .ensures)
 
 returns-9 : tie.Need-returns-9
-unfolding viewCode sideOf signOf shownRecord shownBy shown
+unfolding viewCode sideOf signOf shownBy shown
 returns-9 c = shown-as cmp _ _ _ (c .before .enum-told9 .given .1) (c .unsigned3 .ensures)
 
 returns-10 : tie.Need-returns-10
-unfolding viewCode sideOf signOf shownRecord shownBy shown
+unfolding viewCode sideOf signOf shownBy shown
 returns-10 c = shown-as cmp _ _ _ (c .before .enum-told10 .given .1) (c .unsigned4 .ensures)
 
 returns-11 : tie.Need-returns-11
-unfolding viewCode sideOf signOf shownRecord shownBy shown
+unfolding viewCode sideOf signOf shownBy shown
 returns-11 c = shown-as cmp _ _ _ (c .before .enum-told11 .given .1) (c .signed7 .ensures)
 
 returns-12 : tie.Need-returns-12
-unfolding viewCode sideOf signOf shownRecord shownBy shown
+unfolding viewCode sideOf signOf shownBy shown
 returns-12 c = shown-as cmp _ _ _ (c .before .enum-told12 .given .1) (c .signed8 .ensures)
 
 returns-13 : tie.Need-returns-13
-unfolding viewCode sideOf signOf shownRecord shownBy shown
+unfolding viewCode sideOf signOf shownBy shown
 returns-13 c = shown-as cmp _ _ _ (c .before .enum-told13 .given .1) (c .nothing .ensures)
 
 pub after-cmp-spec : {M : Type 1} → statement M

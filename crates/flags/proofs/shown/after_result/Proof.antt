@@ -36,19 +36,19 @@ nothing-requires : tie.Need-nothing-requires
 nothing-requires c κs = search needs
 
 returns : tie.Need-returns
-unfolding viewCode sideOf signOf shownRecord shownBy shown
+unfolding viewCode sideOf signOf shownBy shown
 returns c = shown-as result _ _ _ (c .before .enum-told .given .1) (c .signed .ensures)
 
 returns-2 : tie.Need-returns-2
-unfolding viewCode sideOf signOf shownRecord shownBy shown
+unfolding viewCode sideOf signOf shownBy shown
 returns-2 c = shown-as result _ _ _ (c .before .enum-told2 .given .1) (c .signed2 .ensures)
 
 returns-3 : tie.Need-returns-3
-unfolding viewCode sideOf signOf shownRecord shownBy shown
+unfolding viewCode sideOf signOf shownBy shown
 returns-3 c = shown-as result _ _ _ (c .before .enum-told3 .given .1) (c .signed3 .ensures)
 
 returns-4 : tie.Need-returns-4
-unfolding viewCode sideOf signOf shownRecord shownBy shown
+unfolding viewCode sideOf signOf shownBy shown
 returns-4 c = shown-as result _ _ _ (c .before .enum-told4 .given .1) (c .signed4 .ensures)
 
 returns-5 : tie.Need-returns-5

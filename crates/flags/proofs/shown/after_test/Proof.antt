@@ -24,11 +24,11 @@ nothing-requires : tie.Need-nothing-requires
 nothing-requires c κs = search needs
 
 returns : tie.Need-returns
-unfolding viewCode sideOf signOf shownRecord shownBy shown
+unfolding viewCode sideOf signOf shownBy shown
 returns c = shown-as test _ _ _ (c .before .enum-told .given .1) (c .signed .ensures)
 
 returns-2 : tie.Need-returns-2
-unfolding viewCode sideOf signOf shownRecord shownBy shown
+unfolding viewCode sideOf signOf shownBy shown
 returns-2 c = shown-as test _ _ _ (c .before .enum-told2 .given .1) (c .signed2 .ensures)
 
 returns-3 : tie.Need-returns-3
