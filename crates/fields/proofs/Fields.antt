@@ -11,7 +11,7 @@ use Rattle.definition.specs.Lists.{allBelow}
 use Rattle.definition.specs.Contents.{blockWord, phiWord, stmtWord, itemWord, exprWord}
 use Rattle.definition.specs.Owners.{stmtKind, stmtField, exprItems, items, firstItem}
 use Rattle.definition.specs.Shape.{bit, absent, blockShaped, phiShaped, fieldsShaped, itemsShaped, stmtShaped, exprShaped}
-use Rattle.fields.specs.Fields.{optional, blankTail, tagShaped, Cut}
+use Rattle.fields.specs.Fields.{optional, blankTail, headed, tagShaped, Cut}
 
 -- ---- words that are there or not
 pub absent-is : (there w : ℕ) → (not (eqb there 0) || eqb w 0) ≡ absent there w
@@ -64,9 +64,18 @@ module _ (w : ℕ → ℕ) where
   unfolding fieldsShaped blankTail
   assign-is x p = p
 
-  pub store-is : (a : ℕ) (x : Bool) → a ≡ w 0 → x ≡ blankTail w → (leb a 255 && x) ≡ fieldsShaped kStore w
-  unfolding fieldsShaped
-  store-is a x p = rw p (with-tail (leb (w 0) 255) x)
+  pub headed-is : (most a : ℕ) (x : Bool) → a ≡ w 0 → x ≡ blankTail w → (leb a most && x) ≡ headed most w
+  unfolding headed
+  headed-is most a x p = rw p (with-tail (leb (w 0) most) x)
+
+  -- the kinds whose first field alone is not free
+  pub store-is : (x : Bool) → x ≡ headed 255 w → x ≡ fieldsShaped kStore w
+  unfolding fieldsShaped headed
+  store-is x p = p
+
+  pub flags-is : (x : Bool) → x ≡ headed 1 w → x ≡ fieldsShaped kFlags w
+  unfolding fieldsShaped headed
+  flags-is x p = p
 
   pub call-is : (a b c : ℕ) (x : Bool) → a ≡ w 3 → b ≡ w 4 → c ≡ w 5 → x ≡ optional a b c → x ≡ fieldsShaped kCall w
   unfolding fieldsShaped optional
@@ -76,10 +85,6 @@ module _ (w : ℕ → ℕ) where
       → x ≡ optional a b c → y ≡ optional d e g → (x && y) ≡ fieldsShaped kBranch w
   unfolding fieldsShaped
   branch-is a b c d e g x y pa pb pc pd pe pg px py = rw (px, py, pa, pb, pc, pd, pe, pg) (two-optional _ _ _ _ _ _)
-
-  pub flags-is : (a : ℕ) (x : Bool) → a ≡ w 0 → x ≡ blankTail w → (leb a 1 && x) ≡ fieldsShaped kFlags w
-  unfolding fieldsShaped
-  flags-is a x p = rw p (with-tail (leb (w 0) 1) x)
 
   pub return-is : (a b c : ℕ) (x y : Bool) → a ≡ w 0 → b ≡ w 1 → c ≡ w 2 → x ≡ absent a b → y ≡ blankTail w
       → (leb a 1 && x && eqb c 0 && y) ≡ fieldsShaped kReturn w

@@ -3,7 +3,7 @@ use mathlib.Core.Path.{_≡_}
 use mathlib.Core.Bool.{Bool, true, false, cond, _&&_}
 use mathlib.Core.List.{List}
 use Prim.Native.Nat.{ℕ, _+_, _<_}
-use lib.Dec.{eqb}
+use lib.Dec.{eqb, leb}
 use Rattle.definition.specs.Codes.{tConst, tUse, tBin, tUn, tLoad, tOpaque}
 use Rattle.definition.specs.Owners.{items, firstItem}
 use Rattle.definition.specs.Shape.{bit, absent, byte}
@@ -15,6 +15,10 @@ optional there v w = bit there && absent there v && absent there w
 -- the last four of a statement's seven fields are 0
 unfoldable pub blankTail : (ℕ → ℕ) → Bool
 blankTail w = eqb (w 3) 0 && eqb (w 4) 0 && eqb (w 5) 0 && eqb (w 6) 0
+
+-- the first of them is at most a number, and the last four are 0
+unfoldable pub headed : ℕ → (ℕ → ℕ) → Bool
+headed most w = leb (w 0) most && eqb (w 3) 0 && eqb (w 4) 0 && eqb (w 5) 0 && eqb (w 6) 0
 
 -- the fields of an expression by its tag: the first, and the last two
 unfoldable pub tagShaped : ℕ → ℕ → ℕ → ℕ → Bool

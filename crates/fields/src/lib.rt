@@ -21,11 +21,11 @@ use records::owners::expr_items;
 use records::owners::stmt_field;
 use records::owners::stmt_kind;
 ghost use mathlib.Core.Path.{_≡_};
-ghost use Rattle.definition.specs.Codes.{kStore, kCall, kBranch, kFlags, kReturn, kOther};
+ghost use Rattle.definition.specs.Codes.{kCall, kBranch, kReturn, kOther};
 ghost use Rattle.definition.specs.Owners.{stmtKind, stmtField};
 ghost use Rattle.definition.specs.Shape.{absent, blockShaped, phiShaped};
 ghost use Rattle.definition.specs.Shape.{fieldsShaped, itemsShaped, stmtShaped, exprShaped};
-ghost use Rattle.fields.specs.Fields.{optional, blankTail, tagShaped, Cut};
+ghost use Rattle.fields.specs.Fields.{optional, blankTail, headed, tagShaped, Cut};
 
 // A field that is 0 where the word before it says that nothing is there.
 fn absent(there: u32, w: u32) -> bool
@@ -75,13 +75,14 @@ fn blank_tail(f: &[u8], i: u32) -> bool
         & (stmt_field(f, i, 6) == 0)
 }
 
-// The seven fields of a statement of each kind.
-fn store_shaped(f: &[u8], i: u32) -> bool
-    ensures { λ r. ⌜ r ≡ fieldsShaped kStore (stmtField (now (f .entry)) i) ⌝ }
+// The first field is at most a number, and the last four are 0.
+fn headed(f: &[u8], i: u32, most: u32) -> bool
+    ensures { λ r. ⌜ r ≡ headed most (stmtField (now (f .entry)) i) ⌝ }
 {
-    (stmt_field(f, i, 0) <= 255) & blank_tail(f, i)
+    (stmt_field(f, i, 0) <= most) & blank_tail(f, i)
 }
 
+// The seven fields of a statement of each kind.
 fn call_shaped(f: &[u8], i: u32) -> bool
     ensures { λ r. ⌜ r ≡ fieldsShaped kCall (stmtField (now (f .entry)) i) ⌝ }
 {
@@ -106,12 +107,6 @@ fn branch_shaped(f: &[u8], i: u32) -> bool
             stmt_field(f, i, 4),
             stmt_field(f, i, 5),
         )
-}
-
-fn flags_shaped(f: &[u8], i: u32) -> bool
-    ensures { λ r. ⌜ r ≡ fieldsShaped kFlags (stmtField (now (f .entry)) i) ⌝ }
-{
-    (stmt_field(f, i, 0) <= 1) & blank_tail(f, i)
 }
 
 fn return_shaped(f: &[u8], i: u32) -> bool
@@ -139,7 +134,7 @@ fn fields_shaped(f: &[u8], i: u32) -> bool
         return blank_tail(f, i);
     }
     if k == STORE {
-        return store_shaped(f, i);
+        return headed(f, i, 255);
     }
     if k == CALL {
         return call_shaped(f, i);
@@ -148,7 +143,7 @@ fn fields_shaped(f: &[u8], i: u32) -> bool
         return branch_shaped(f, i);
     }
     if k == FLAGS {
-        return flags_shaped(f, i);
+        return headed(f, i, 1);
     }
     if k == RETURN {
         return return_shaped(f, i);

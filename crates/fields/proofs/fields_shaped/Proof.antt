@@ -1,5 +1,5 @@
 -- By the kind that was read: the test of that kind answers, and a kind that is none of the seven is not right.
-use Rattle.fields.proofs.Fields.{assign-is, of-kind, no-kind}
+use Rattle.fields.proofs.Fields.{assign-is, store-is, flags-is, of-kind, no-kind}
 use borrow.Author.Needs.{needs}
 use Rattle.fields.proofs.fields_shaped.Statement.{statement}
 use Rattle.fields.proofs.fields_shaped.Tie as tie
@@ -13,11 +13,11 @@ blank-tail-requires c κs = search needs
 returns : tie.Need-returns
 returns c = of-kind _ _ _ _ _ (c .before .before .stmt-kind .ensures) (c .before .if1 .taken) (assign-is _ _ (c .blank-tail .ensures))
 
-store-shaped-requires : tie.Need-store-shaped-requires
-store-shaped-requires c κs = search needs
+headed-requires : tie.Need-headed-requires
+headed-requires c κs = search needs
 
 returns-2 : tie.Need-returns-2
-returns-2 c = of-kind _ _ _ _ _ (c .before .before .before .stmt-kind .ensures) (c .before .if2 .taken) (c .store-shaped .ensures)
+returns-2 c = of-kind _ _ _ _ _ (c .before .before .before .stmt-kind .ensures) (c .before .if2 .taken) (store-is _ _ (c .headed .ensures))
 
 call-shaped-requires : tie.Need-call-shaped-requires
 call-shaped-requires c κs = search needs
@@ -31,11 +31,11 @@ branch-shaped-requires c κs = search needs
 returns-4 : tie.Need-returns-4
 returns-4 c = of-kind _ _ _ _ _ (c .before .before .before .before .before .stmt-kind .ensures) (c .before .if4 .taken) (c .branch-shaped .ensures)
 
-flags-shaped-requires : tie.Need-flags-shaped-requires
-flags-shaped-requires c κs = search needs
+headed-requires-2 : tie.Need-headed-requires-2
+headed-requires-2 c κs = search needs
 
 returns-5 : tie.Need-returns-5
-returns-5 c = of-kind _ _ _ _ _ (c .before .before .before .before .before .before .stmt-kind .ensures) (c .before .if5 .taken) (c .flags-shaped .ensures)
+returns-5 c = of-kind _ _ _ _ _ (c .before .before .before .before .before .before .stmt-kind .ensures) (c .before .if5 .taken) (flags-is _ _ (c .headed2 .ensures))
 
 return-shaped-requires : tie.Need-return-shaped-requires
 return-shaped-requires c κs = search needs
@@ -59,13 +59,13 @@ fields-shaped-spec =
     stmt-kind-requires
     blank-tail-requires
     returns
-    store-shaped-requires
+    headed-requires
     returns-2
     call-shaped-requires
     returns-3
     branch-shaped-requires
     returns-4
-    flags-shaped-requires
+    headed-requires-2
     returns-5
     return-shaped-requires
     returns-6
