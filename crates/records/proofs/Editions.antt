@@ -2,14 +2,12 @@
 use mathlib.Core.Path.{_≡_, refl, sym, ap, _∙_}
 use mathlib.Core.List.{List}
 use Prim.Native.Nat.{ℕ, zero, suc, _+_, _*_, _-_, _≤_, _<_}
-use mathlib.Core.Bool.{cond}
-use lib.Dec.{ltb}
 use lib.ListN.{length, getD, length-map}
 use borrow.Author.Tests.{lt-ltb, le-ltb}
 use Rattle.definition.specs.Lists.{range}
 use Rattle.definition.specs.Contents.{contents, text}
 use Rattle.records.specs.declared.edition.Edition.{Edition}
-use Rattle.records.specs.Editions.{sectionAt, editionOf}
+use Rattle.records.specs.Editions.{entryAt, sectionAt, editionOf}
 
 pub length-range : (a n : ℕ) → length (range a n) ≡ n
 unfolding range
@@ -29,8 +27,10 @@ unfolding text
 text-is e n h = h ∙ ap (λ (n : ℕ). n - 1) (sym (sections-length e))
 
 -- a table's number, and 0 behind its ten
-pub within : (l : List ℕ) (s n : ℕ) → s < 10 → n ≡ getD l s 0 → n ≡ cond (ltb s 10) (getD l s 0) 0
+pub within : (l : List ℕ) (s n : ℕ) → s < 10 → n ≡ getD l s 0 → n ≡ entryAt l s
+unfolding entryAt
 within l s n h e = rw (lt-ltb s 10 h) e
 
-pub past : (l : List ℕ) (s : ℕ) → 10 ≤ s → 0 ≡ cond (ltb s 10) (getD l s 0) 0
+pub past : (l : List ℕ) (s : ℕ) → 10 ≤ s → 0 ≡ entryAt l s
+unfolding entryAt
 past l s h = rw (le-ltb s 10 h)

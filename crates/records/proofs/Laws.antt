@@ -23,15 +23,9 @@ place-at f s w i k o e = rw e
 pub read-placed : (read : ℕ → ℕ) (p q r : ℕ) → p ≡ q → r ≡ read p → r ≡ read q
 read-placed read p q r e h = rw (← e) h
 
--- the marks of a statement: by the word w that was read
-module _ (f : List ℕ) (i w : ℕ) (marks : w ≡ stmtWord f i 2) where
-  pub dead-is : eqb (w % 2) 1 ≡ marked f i 1
-  unfolding marked
-  dead-is = let d : w / 1 ≡ w = omega arith in rw (← marks, d)
-
-  pub pushed-is : eqb (w / 4 % 2) 1 ≡ marked f i 4
-  unfolding marked
-  pushed-is = rw marks
+pub marked-is : (f : List ℕ) (i m w : ℕ) → w ≡ stmtWord f i 2 → eqb (w / m % 2) 1 ≡ marked f i m
+unfolding marked
+marked-is f i m w marks = rw marks
 
 -- the items of a statement: by the kind k that was read, which is m, and the field n
 module _ (f : List ℕ) (i k n : ℕ) (kind : k ≡ stmtKind f i) where

@@ -1,6 +1,6 @@
 -- The code's edition, read as the definition's.
 use mathlib.Core.Bool.{cond}
-use mathlib.Core.List.{map}
+use mathlib.Core.List.{List, map}
 use Prim.Native.Nat.{ℕ}
 use lib.Dec.{ltb}
 use lib.ListN.{getD}
@@ -9,11 +9,15 @@ use Rattle.definition.specs.Lists.{range}
 use Rattle.records.specs.declared.edition.Edition.{Edition}
 use Rattle.records.specs.declared.edition.Room.{Room}
 
-unfoldable pub wordsAt : Edition → ℕ → ℕ
-wordsAt e s = cond (ltb s 10) (getD (e .words) s 0) 0
+-- number s of a table of ten, and 0 behind them
+unfoldable pub entryAt : List ℕ → ℕ → ℕ
+entryAt l s = cond (ltb s 10) (getD l s 0) 0
 
-unfoldable pub limitAt : Edition → ℕ → ℕ
-limitAt e s = cond (ltb s 10) (getD (e .limits) s 0) 0
+abbrev pub wordsAt : Edition → ℕ → ℕ
+wordsAt e s = entryAt (e .words) s
+
+abbrev pub limitAt : Edition → ℕ → ℕ
+limitAt e s = entryAt (e .limits) s
 
 abbrev pub sectionAt : Edition → ℕ → Section
 sectionAt e s = record { words = wordsAt e s; most = limitAt e s }

@@ -2,7 +2,7 @@
 ghost use mathlib.Core.Path.{_≡_};
 ghost use Rattle.definition.specs.Contents.{contents, text};
 ghost use Rattle.definition.specs.Edition.{edition1};
-ghost use Rattle.records.specs.Editions.{editionOf, wordsAt, limitAt};
+ghost use Rattle.records.specs.Editions.{entryAt, wordsAt, limitAt, editionOf};
 
 // Lines, tokens and bytes of text.
 pub struct Room {
@@ -23,6 +23,17 @@ pub struct Edition {
     // What lowering may write, and what the caller lends.
     pub lowered: Room,
     pub lent: Room,
+}
+
+// Number s of a table of ten; behind them all is 0.
+fn entry_at(table: [u32; 10], s: u32) -> u32
+    ensures { λ r. ⌜ r ≡ entryAt table s ⌝ }
+{
+    if s < 10 {
+        let k = s as usize;
+        return table[k];
+    }
+    0
 }
 
 impl Edition {
@@ -70,20 +81,14 @@ impl Edition {
     pub fn words_at(self, s: u32) -> u32
         ensures { λ r. ⌜ r ≡ wordsAt self s ⌝ }
     {
-        if s < 10 {
-            let k = s as usize;
-            return self.words[k];
-        }
-        0
+        let table = self.words;
+        entry_at(table, s)
     }
 
     pub fn limit_at(self, s: u32) -> u32
         ensures { λ r. ⌜ r ≡ limitAt self s ⌝ }
     {
-        if s < 10 {
-            let k = s as usize;
-            return self.limits[k];
-        }
-        0
+        let table = self.limits;
+        entry_at(table, s)
     }
 }

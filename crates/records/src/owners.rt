@@ -41,18 +41,26 @@ pub fn stmt_kind(f: &[u8], i: u32) -> u32
     stmt_word(f, i, 3)
 }
 
+// Whether statement i has mark m, a power of 2.
+fn is_marked(f: &[u8], i: u32, m: u32) -> bool
+    requires { ⌜ 0 < m ⌝ }
+    ensures { λ r. ⌜ r ≡ marked (now (f .entry)) i m ⌝ }
+{
+    stmt_word(f, i, 2) / m % 2 == 1
+}
+
 // Whether statement i is dead.
 pub fn is_dead(f: &[u8], i: u32) -> bool
     ensures { λ r. ⌜ r ≡ marked (now (f .entry)) i 1 ⌝ }
 {
-    stmt_word(f, i, 2) % 2 == 1
+    is_marked(f, i, 1)
 }
 
 // Whether statement i is marked as a push.
 pub fn is_pushed(f: &[u8], i: u32) -> bool
     ensures { λ r. ⌜ r ≡ marked (now (f .entry)) i 4 ⌝ }
 {
-    stmt_word(f, i, 2) / 4 % 2 == 1
+    is_marked(f, i, 4)
 }
 
 // Field k of a statement, behind address, marks and kind.
