@@ -9,12 +9,15 @@ use Rattle.definition.specs.Words.{word, long, part}
 unfoldable pub contents : Edition → ℕ
 contents E = 16 + 8 * length (E .sections)
 
--- the byte at which section s begins, and how many records it has
-unfoldable pub offset : List ℕ → ℕ → ℕ
-offset f s = word f (16 + 8 * s)
+-- word k of section s in the contents: 0 is the byte at which it begins, 1 how many records it has
+unfoldable pub contentsWord : List ℕ → ℕ → ℕ → ℕ
+contentsWord f s k = word f (16 + 8 * s + 4 * k)
 
-unfoldable pub size : List ℕ → ℕ → ℕ
-size f s = word f (20 + 8 * s)
+abbrev pub offset : List ℕ → ℕ → ℕ
+offset f s = contentsWord f s 0
+
+abbrev pub size : List ℕ → ℕ → ℕ
+size f s = contentsWord f s 1
 
 -- the text, which is the last section
 unfoldable pub text : Edition → ℕ

@@ -11,7 +11,7 @@ use mir.Val.{Fits}
 use borrow.Author.Tests.{not-false}
 use Rattle.words.proofs.Laws.{word-small}
 use Rattle.definition.specs.Edition.{Edition, statements, lists}
-use Rattle.definition.specs.Contents.{contents, size}
+use Rattle.definition.specs.Contents.{contents, contentsWord, size}
 use Rattle.definition.specs.Owners.{exprItems, items, firstItem}
 use Rattle.definition.specs.Shape.{adjoin, owned, shaped, refused4}
 use Rattle.definition.proofs.Bools.{both-true}
@@ -35,8 +35,8 @@ shape-owned E f h =
 
 module _ (f : List ℕ) (bytes : (k : ℕ) → Fits w8 (getD f k 0)) where
   pub size-small : (s : ℕ) → size f s < 4294967296
-  unfolding size
-  size-small s = word-small f bytes (20 + 8 * s)
+  unfolding contentsWord
+  size-small s = word-small f bytes (16 + 8 * s + 4)
 
   pub items-few : owned f ≡ true → firstItem f (size f statements) < 4294967296
   items-few h = omega (arith, owned-parts f h .all-items, size-small lists)

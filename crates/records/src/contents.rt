@@ -4,7 +4,7 @@ use words::word_at;
 ghost use mathlib.Core.Path.{_≡_};
 ghost use Prim.Native.Nat.{_≤_};
 ghost use Rattle.definition.specs.Words.{word, long};
-ghost use Rattle.definition.specs.Contents.{offset, size, place, argAt, blockWord, phiWord, inputAt, stmtWord, itemWord, exprWord, nameWord};
+ghost use Rattle.definition.specs.Contents.{contentsWord, offset, size, place, argAt, blockWord, phiWord, inputAt, stmtWord, itemWord, exprWord, nameWord};
 ghost use Rattle.definition.specs.Contents.{blockLong, stmtLong, exprLong, nameLong};
 
 // The sections by their place in the contents.
@@ -24,18 +24,25 @@ pub const EXPRESSIONS: u32 = 6;
 
 pub const NAMES: u32 = 7;
 
+// Word k of section s in the contents.
+fn contents_word(f: &[u8], s: u32, k: u32) -> u32
+    ensures { λ r. ⌜ r ≡ contentsWord (now (f .entry)) s k ⌝ }
+{
+    word_at(f, 16 + 8 * (s as usize) + 4 * (k as usize))
+}
+
 // The byte at which section s begins.
 pub fn offset_of(f: &[u8], s: u32) -> u32
     ensures { λ r. ⌜ r ≡ offset (now (f .entry)) s ⌝ }
 {
-    word_at(f, 16 + 8 * (s as usize))
+    contents_word(f, s, 0)
 }
 
 // How many records section s has.
 pub fn size_of(f: &[u8], s: u32) -> u32
     ensures { λ r. ⌜ r ≡ size (now (f .entry)) s ⌝ }
 {
-    word_at(f, 20 + 8 * (s as usize))
+    contents_word(f, s, 1)
 }
 
 // The byte at which word k of record i stands, in section s of records of w words.

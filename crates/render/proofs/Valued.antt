@@ -26,6 +26,7 @@ use Rattle.definition.specs.Tokens.{Token, tok, register}
 use Rattle.definition.specs.Render.{variable, openedAt, useOr, addressOr, expr}
 use Rattle.definition.specs.Lists.{at}
 use Rattle.words.proofs.Laws.{word-small}
+use Rattle.records.proofs.Items.{size-small}
 use Rattle.places.specs.declared.Places.{Places}
 use Rattle.places.specs.Keys.{keyOf, valueOf, exprKey, keyed}
 use Rattle.values.specs.Tables.{table}
@@ -63,8 +64,7 @@ open-low : (k pos : ℕ) → Before k pos → k - 1 < pos
 open-low k pos h = omega (arith, h .some, h .within)
 
 pub open-falls : (f : List ℕ) (pos k b t : ℕ) → pos * 2 ^ 33 ≡ t → Before k pos → ((k : ℕ) → Fits w8 (getD f k 0)) → b ≡ size f expressions → (k - 1) * 2 ^ 33 + 2 * b < t
-unfolding size
-open-falls f pos k b t e h bytes q = falls-back pos (k - 1) b t e (open-low k pos h) (rw q (word-small f bytes _))
+open-falls f pos k b t e h bytes q = falls-back pos (k - 1) b t e (open-low k pos h) (rw q (size-small f bytes expressions))
 
 pub all-within : (b m : ℕ) → b ≡ m → b ≤ m
 all-within b m e = omega arith
