@@ -11,7 +11,7 @@ use Rattle.definition.specs.Lists.{all, count, gather, range, allBelow, sumBelo
 use Rattle.definition.specs.Contents.{size}
 use Rattle.definition.specs.Owners.{exprItems, valueItems, firstItem}
 use Rattle.definition.specs.Values.{Value, eqv}
-use Rattle.definition.specs.Meaning.{phiValue, assigned, callReturns, itemValues, strict, loose, definedOnce}
+use Rattle.definition.specs.Meaning.{phiValue, assigned, callReturns, itemValues, strict, loose, definedOnce, valueAt}
 use Rattle.defined.specs.declared.value.Value.{Value as CValue}
 use Rattle.defined.specs.declared.value.Defined.{Defined}
 use Rattle.defined.specs.declared.value.Defined.the-variants.{Nothing, One}
@@ -49,7 +49,7 @@ one-lone f i d v t h e k = k ∙ sym (ap (all (lone f)) (sym h ∙ ap listOf e) 
 -- ---- all places
 module _ (f : List ℕ) (v : Value) where
   items-count : (i : ℕ) → count (eqv v) (itemValues f i) ≡ itemHits f v (firstValue f i) (valueItems f i)
-  unfolding itemValues itemValue itemHits firstValue hit
+  unfolding itemValues valueAt itemHits firstValue hit
   items-count i = count-map (eqv v) (λ k. itemValue f (firstValue f i + k)) (valueItems f i)
 
   phis-count : count (eqv v) (map (phiValue f) (range 0 (size f phis))) ≡ phiHits f v (size f phis)

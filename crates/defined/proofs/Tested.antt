@@ -8,7 +8,7 @@ use Rattle.definition.specs.Lists.{all, gather, range, allBelow}
 use Rattle.definition.specs.Contents.{size}
 use Rattle.definition.specs.Owners.{exprItems, valueItems, firstItem}
 use Rattle.definition.specs.Values.{Value}
-use Rattle.definition.specs.Meaning.{phiValue, assigned, callReturns, itemValues, strict, loose}
+use Rattle.definition.specs.Meaning.{phiValue, assigned, callReturns, itemValues, strict, loose, valueAt}
 use Rattle.defined.specs.Defined.{valueOf, listOf, itemValue, firstValue}
 use Rattle.defined.specs.declared.value.Value.{Value as CValue}
 use Rattle.defined.specs.declared.value.Defined.{Defined}
@@ -40,7 +40,7 @@ module _ (f : List ℕ) (p : Value → Bool) where
   loose-all = all-gather p (λ i. callReturns f i ++ itemValues f i) (size f statements)
 
   items-all : (i : ℕ) → all p (itemValues f i) ≡ allBelow (valueItems f i) (λ k. p (itemValue f (firstValue f i + k)))
-  unfolding itemValues itemValue firstValue
+  unfolding itemValues valueAt firstValue
   items-all i = all-map p (λ k. itemValue f (firstValue f i + k)) (valueItems f i)
 
   module _ (i : ℕ) (t : Bool) (says : t ≡ all p (callReturns f i)) where

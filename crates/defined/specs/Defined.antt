@@ -3,12 +3,12 @@ use mathlib.Core.Bool.{Bool, not, cond, _&&_}
 use mathlib.Core.List.{List, [], _∷_, _++_}
 use Prim.Native.Nat.{ℕ, _+_}
 use lib.Dec.{eqb}
-use Rattle.definition.specs.Edition.{phis, statements}
+use Rattle.definition.specs.Edition.{phis, statements, lists, itemWords}
 use Rattle.definition.specs.Lists.{count, sumBelow}
-use Rattle.definition.specs.Contents.{size, itemWord}
+use Rattle.definition.specs.Contents.{size}
 use Rattle.definition.specs.Owners.{exprItems, valueItems, firstItem}
 use Rattle.definition.specs.Values.{Value as DValue, value, eqv}
-use Rattle.definition.specs.Meaning.{phiValue, assigned, callReturns, strict, loose}
+use Rattle.definition.specs.Meaning.{valueAt, phiValue, assigned, callReturns, strict, loose}
 use Rattle.defined.specs.declared.value.Value.{Value}
 use Rattle.defined.specs.declared.value.Defined.{Defined}
 use Rattle.defined.specs.declared.value.Defined.the-variants.{Nothing, One}
@@ -26,8 +26,8 @@ unfoldable pub lone : List ℕ → DValue → Bool
 lone f v = not (eqb (v .ver) 0) && eqb (count (eqv v) (strict f ++ loose f)) 1
 
 -- the value at place k of the lists, and where those of statement i begin
-unfoldable pub itemValue : List ℕ → ℕ → DValue
-itemValue f k = value (itemWord f k 0) (itemWord f k 1)
+abbrev pub itemValue : List ℕ → ℕ → DValue
+itemValue f k = valueAt f lists itemWords k
 
 unfoldable pub firstValue : List ℕ → ℕ → ℕ
 firstValue f i = firstItem f i + exprItems f i

@@ -1,6 +1,7 @@
 // Values of the SSA form, read where the file defines them.
-use records::contents::item_word;
-use records::contents::phi_word;
+use records::contents::LISTS;
+use records::contents::PHIS;
+use records::contents::field;
 use records::owners::ASSIGN;
 use records::owners::CALL;
 use records::owners::expr_items;
@@ -9,13 +10,13 @@ use records::owners::stmt_kind;
 use records::owners::value_items;
 ghost use mathlib.Core.Path.{_≡_};
 ghost use mathlib.Core.Bool.{true};
-ghost use Prim.Native.Nat.{_+_, _<_};
+ghost use Prim.Native.Nat.{_+_, _≤_, _<_};
 ghost use Rattle.definition.specs.Edition.{statements};
 ghost use Rattle.definition.specs.Contents.{size};
 ghost use Rattle.definition.specs.Owners.{firstItem};
 ghost use Rattle.definition.specs.Shape.{owned};
 ghost use Rattle.definition.specs.Values.{eqv};
-ghost use Rattle.definition.specs.Meaning.{phiValue, assigned, callReturns};
+ghost use Rattle.definition.specs.Meaning.{valueAt, phiValue, assigned, callReturns};
 ghost use Rattle.defined.specs.Defined.{valueOf, listOf, itemValue};
 
 // How many register families there are, and the stack pointer's number.
@@ -43,23 +44,28 @@ pub fn same_value(a: Value, b: Value) -> bool
     a.ver == b.ver
 }
 
+// The value that words 0 and 1 of record i name, in section s of records of w words.
+fn value_in(f: &[u8], s: u32, w: u32, i: u32) -> Value
+    requires { ⌜ w ≤ 16 ⌝ }
+    ensures { λ r. ⌜ valueOf r ≡ valueAt (now (f .entry)) s w i ⌝ }
+{
+    Value {
+        reg: field(f, s, w, i, 0),
+        ver: field(f, s, w, i, 1),
+    }
+}
+
 pub fn phi_value(f: &[u8], i: u32) -> Value
     ensures { λ r. ⌜ valueOf r ≡ phiValue (now (f .entry)) i ⌝ }
 {
-    Value {
-        reg: phi_word(f, i, 0),
-        ver: phi_word(f, i, 1),
-    }
+    value_in(f, PHIS, 4, i)
 }
 
 // The value at place k of the lists.
 pub fn item_value(f: &[u8], k: u32) -> Value
     ensures { λ r. ⌜ valueOf r ≡ itemValue (now (f .entry)) k ⌝ }
 {
-    Value {
-        reg: item_word(f, k, 0),
-        ver: item_word(f, k, 1),
-    }
+    value_in(f, LISTS, 2, k)
 }
 
 // What an Assign defines.

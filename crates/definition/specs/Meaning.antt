@@ -4,11 +4,11 @@ use mathlib.Core.List.{List, [], _∷_, _++_, map}
 use Prim.Native.Nat.{ℕ, _+_, _-_}
 use lib.Dec.{eqb, ltb, leb}
 use Rattle.definition.specs.Codes.{kAssign, kCall, tUse}
-use Rattle.definition.specs.Edition.{Edition, args, blocks, phis, statements, expressions, names}
+use Rattle.definition.specs.Edition.{Edition, args, blocks, phis, phiWords, statements, expressions, names}
 use Rattle.definition.specs.Words.{word}
 use Rattle.definition.specs.Texts.{txt, begins}
 use Rattle.definition.specs.Lists.{all, count, gather, range, allBelow, among, distinct}
-use Rattle.definition.specs.Contents.{size, argAt, blockLong, phiWord, itemWord, exprWord, nameLong, textAt}
+use Rattle.definition.specs.Contents.{size, place, argAt, blockLong, itemWord, exprWord, nameLong, textAt}
 use Rattle.definition.specs.Owners.{stmtKind, stmtField, exprItems, valueItems, firstItem}
 use Rattle.definition.specs.Values.{Value, value, eqv, RSP}
 
@@ -34,8 +34,12 @@ itemValues f i =
     let from = firstItem f i + exprItems f i in
     map (λ k. value (itemWord f (from + k) 0) (itemWord f (from + k) 1)) (range 0 (valueItems f i))
 
-unfoldable pub phiValue : List ℕ → ℕ → Value
-phiValue f i = value (phiWord f i 0) (phiWord f i 1)
+-- the value that words 0 and 1 of record i name, in section s of records of w words
+unfoldable pub valueAt : List ℕ → ℕ → ℕ → ℕ → Value
+valueAt f s w i = value (word f (place f s w i 0)) (word f (place f s w i 1))
+
+abbrev pub phiValue : List ℕ → ℕ → Value
+phiValue f i = valueAt f phis phiWords i
 
 -- what an Assign defines, which nothing else may define; what a Call returns
 unfoldable pub assigned : List ℕ → ℕ → List Value

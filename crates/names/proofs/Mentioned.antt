@@ -15,7 +15,7 @@ use Rattle.definition.specs.Contents.{size, place, argAt, phiWord, inputAt}
 use Rattle.definition.specs.Owners.{phiInputs, firstInput}
 use Rattle.definition.specs.Shape.{owned}
 use Rattle.definition.specs.Values.{Value, value, eqv}
-use Rattle.definition.specs.Meaning.{phiValue}
+use Rattle.definition.specs.Meaning.{phiValue, valueAt}
 use Rattle.definition.proofs.ListLaws.{Each, end, _▸_, each-append, each-map}
 use Rattle.places.specs.Keys.{keyOf, argKey, phiKey, inputKey, exprKey, placesOf, keyed}
 use Rattle.values.specs.Tables.{numberOf, numbered, table}
@@ -65,7 +65,7 @@ module _ (f : List ℕ) (bytes : (k : ℕ) → Fits w8 (getD f k 0)) (own : owne
   arg-named i h = named-at _ _ (arg-here f i h) (at-arg f n i h) (omega arith)
 
   pub phi-named : (i : ℕ) → i < size f phis → Names f n (placesOf f .phis + i) (phiValue f i)
-  unfolding phiKey phiValue
+  unfolding phiKey valueAt
   phi-named i h = named-at _ _ (phi-here f i h) (at-phi f n i h) (word-small f bytes (place f phis phiWords i 1))
 
   pub input-named : (i j : ℕ) → i < size f phis → j < phiInputs f i → Names f n (placesOf f .inputs + (firstInput f i + j)) (value (phiWord f i 0) (inputAt f (firstInput f i + j)))

@@ -14,7 +14,7 @@ use Rattle.definition.specs.Contents.{size, phiWord, inputAt}
 use Rattle.definition.specs.Owners.{phiInputs, firstInput}
 use Rattle.definition.specs.Shape.{owned}
 use Rattle.definition.specs.Values.{Value, value, eqv, before, lesser, greater, RSP}
-use Rattle.definition.specs.Meaning.{phiValue}
+use Rattle.definition.specs.Meaning.{valueAt}
 use Rattle.definition.specs.Ssa.{Phi, phisOf}
 use Rattle.definition.specs.Read.{phiAt, read}
 use Rattle.definition.specs.Classes.{Member, Pair, find, pairs, relabel, union, unions, alone, classes}
@@ -63,7 +63,7 @@ module _ (f : List ℕ) (bytes : (k : ℕ) → Fits w8 (getD f k 0)) (own : owne
   Somewhere v = (q : ℕ) × Names f n q v
 
   pairs-in : (i : ℕ) → i < size f phis → Joined Somewhere (pairs (phiAt f i))
-  unfolding pairs phiAt phiValue
+  unfolding pairs phiAt valueAt
   pairs-in i h =
       subst (Joined Somewhere)
       (sym (map-map (λ (m : ℕ). record { left = value (phiWord f i 0) (phiWord f i 1); right = value (phiWord f i 0) m }) (inputAt f) (range (firstInput f i) (phiInputs f i))))

@@ -16,7 +16,7 @@ use Rattle.definition.specs.Contents.{size, place, phiWord, inputAt}
 use Rattle.definition.specs.Owners.{stmtKind, stmtField, exprItems, valueItems, blockPhis, blockStmts, phiInputs, firstPhi, firstStmt, firstInput, firstItem}
 use Rattle.definition.specs.Shape.{owned}
 use Rattle.definition.specs.Values.{Value, value, RSP}
-use Rattle.definition.specs.Meaning.{assigned, callReturns}
+use Rattle.definition.specs.Meaning.{assigned, callReturns, valueAt}
 use Rattle.definition.specs.Read.{marked}
 use Rattle.definition.proofs.Bools.{by-cond, both-true}
 use Rattle.definition.proofs.ListLaws.{Each, end, _▸_, each-append}
@@ -48,7 +48,7 @@ module _ (f : List ℕ) (bytes : (k : ℕ) → Fits w8 (getD f k 0)) (own : owne
       (word-small f bytes (place f statements stmtWords i 9)) ▸ end) (λ e. end))
 
   item-named : (i j : ℕ) → i < size f statements → j < valueItems f i → Names f n (placesOf f .items + (firstItem f i + exprItems f i + j)) (itemValue f (firstItem f i + exprItems f i + j))
-  unfolding itemKey itemValue
+  unfolding itemKey valueAt
   item-named i j h k = named-at f bytes own n room _ _ (item-here f own i j h k) (at-item f n own i j h k) (word-small f bytes (place f lists itemWords (firstItem f i + exprItems f i + j) 1))
 
   stmt-right : (i : ℕ) → i < size f statements → Each (Right f n) (stmtSpots f i)

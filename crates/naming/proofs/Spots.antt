@@ -11,14 +11,13 @@ use Rattle.definition.specs.Lists.{gather, range}
 use Rattle.definition.specs.Contents.{size, phiWord, inputAt, itemWord}
 use Rattle.definition.specs.Owners.{stmtKind, stmtField, exprItems, valueItems, blockPhis, blockStmts, phiInputs, firstPhi, firstStmt, firstInput, firstItem}
 use Rattle.definition.specs.Values.{Value, value, RSP}
-use Rattle.definition.specs.Meaning.{phiValue, assigned, callReturns, itemValues}
+use Rattle.definition.specs.Meaning.{assigned, callReturns, itemValues, valueAt}
 use Rattle.definition.specs.Ssa.{Expr, Stmt, Phi, uses, defs, valueOr}
 use Rattle.definition.specs.Read.{allTrees, kindAt, marked, stmtAt, phiAt, blockAt, read}
 use Rattle.definition.specs.Inline.{live}
 use Rattle.definition.specs.Names.{phiKeys, blockKeys}
 use Rattle.definition.proofs.Bools.{by-test}
 use Rattle.records.proofs.Ranges.{gather-map, map-gather, gather-only, shift, gather-same, map-map}
-use Rattle.defined.specs.Defined.{itemValue}
 use Rattle.places.specs.Keys.{placesOf}
 use Rattle.records.proofs.Codes.{by-code}
 use Rattle.names.specs.Spots.{Spot, spot, useSpots}
@@ -28,7 +27,7 @@ use Rattle.naming.specs.Walk.{inputSpot, phiSpots, fieldSpots, itemSpot,
 -- ---- phis
 module _ (f : List ℕ) where
   phi-values : (i : ℕ) → valuesOf (phiSpots f i) ≡ cond (not (eqb (phiWord f i 0) RSP) && not (eqb (phiWord f i 2) 1)) (phiKeys (phiAt f i)) []
-  unfolding phiSpots phiKeys phiAt phiValue inputSpot
+  unfolding phiSpots phiKeys phiAt valueAt inputSpot
   phi-values i =
       let e = map-map (λ (x : Spot). x .of) (λ (k : ℕ). spot (placesOf f .inputs + k) (value (phiWord f i 0) (inputAt f k))) (range (firstInput f i) (phiInputs f i)) in
       let d = map-map (value (phiWord f i 0)) (inputAt f) (range (firstInput f i) (phiInputs f i)) in
@@ -37,7 +36,7 @@ module _ (f : List ℕ) where
 
   -- ---- statements
   item-values : (i : ℕ) → valuesOf (itemSpots f i) ≡ itemValues f i
-  unfolding itemSpots itemSpot itemValues itemValue
+  unfolding itemSpots itemSpot itemValues valueAt
   item-values i =
       let p : firstItem f i + exprItems f i + 0 ≡ firstItem f i + exprItems f i = omega arith in
       map-map (λ (x : Spot). x .of) (λ (k : ℕ). spot (placesOf f .items + k) (value (itemWord f k 0) (itemWord f k 1))) (range (firstItem f i + exprItems f i) (valueItems f i))

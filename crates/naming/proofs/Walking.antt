@@ -9,7 +9,7 @@ use Rattle.definition.specs.Lists.{range, at}
 use Rattle.definition.specs.Contents.{phiWord, inputAt, exprWord}
 use Rattle.definition.specs.Owners.{exprItems, valueItems, phiInputs, firstInput, firstItem}
 use Rattle.definition.specs.Values.{Value, value}
-use Rattle.definition.specs.Meaning.{phiValue, assigned, callReturns}
+use Rattle.definition.specs.Meaning.{phiValue, assigned, callReturns, valueAt}
 use Rattle.definition.specs.Read.{marked}
 use Rattle.definition.proofs.Runs.{run-then}
 use Rattle.defined.specs.declared.value.Value.{Value as Value′}
@@ -60,7 +60,7 @@ module _ (K : Known) (p : ℕ) (S : State) (d : Defined) where
 
 module _ (K : Known) (f : List ℕ) (i r n : ℕ) (S : State) (is : value r n ≡ phiValue f i) where
   reg-is : phiWord f i 0 ≡ r
-  unfolding phiValue
+  unfolding valueAt
   reg-is = sym (ap (λ (v : Value). v .reg) is)
 
   pub phi-rsp : r ≡ 4 → S ≡ walked K S (phiSpots f i)

@@ -10,7 +10,7 @@ use Rattle.definition.specs.Lists.{all, gather, range, allBelow}
 use Rattle.definition.specs.Contents.{size, argAt, phiWord, itemWord, exprWord}
 use Rattle.definition.specs.Owners.{stmtKind, stmtField, exprItems, valueItems, firstItem}
 use Rattle.definition.specs.Values.{value}
-use Rattle.definition.specs.Meaning.{isRegister, argRegs, phiValue, assigned, callReturns, itemValues, strict, loose, useRegister, registers}
+use Rattle.definition.specs.Meaning.{isRegister, argRegs, phiValue, assigned, callReturns, itemValues, strict, loose, useRegister, registers, valueAt}
 use Rattle.definition.proofs.LoweredRead.{below-at}
 use Rattle.definition.proofs.Bools.{both-true}
 use Rattle.meaning.specs.Choice.{named}
@@ -48,7 +48,7 @@ module _ (f : List ℕ) (reg : registers f ≡ true) where
   arg-small i h = small (argAt f i) (below-at (size f args) (argNamed f) (sym (args-named f) ∙ parts .0) i h)
 
   pub phi-small : (i : ℕ) → i < size f phis → phiWord f i 0 < 16
-  unfolding phiValue
+  unfolding valueAt
   phi-small i h = small (phiWord f i 0) (below-at (size f phis) (phiNamed f) (sym (phis-named f) ∙ strict-parts .0) i h)
 
   pub assign-small : (i : ℕ) → i < size f statements → stmtKind f i ≡ 1 → stmtField f i 0 < 16

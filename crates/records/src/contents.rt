@@ -54,7 +54,7 @@ fn place_of(f: &[u8], s: u32, w: u32, i: u32, k: u32) -> usize
 }
 
 // The 32-bit and the 64-bit number there.
-fn field(f: &[u8], s: u32, w: u32, i: u32, k: u32) -> u32
+pub fn field(f: &[u8], s: u32, w: u32, i: u32, k: u32) -> u32
     requires { ⌜ w ≤ 16 ⌝ }
     ensures { λ r. ⌜ r ≡ word (now (f .entry)) (place (now (f .entry)) s w i k) ⌝ }
 {

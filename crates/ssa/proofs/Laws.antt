@@ -8,7 +8,7 @@ use borrow.Author.Tests.{ne-eqb}
 use Rattle.definition.specs.Contents.{phiWord, exprWord, exprLong}
 use Rattle.definition.specs.Owners.{phiInputs}
 use Rattle.definition.specs.Values.{Value as DValue}
-use Rattle.definition.specs.Meaning.{phiValue}
+use Rattle.definition.specs.Meaning.{phiValue, valueAt}
 use Rattle.defined.specs.declared.value.Value.{Value}
 use Rattle.defined.specs.Defined.{valueOf}
 use Rattle.ssa.specs.Block.{phiRecord}
@@ -28,7 +28,7 @@ phi-made f i r n d m p q e h = cc
 
 pub phi-is : (f : List ℕ) (i : ℕ) (v : Value) (w m : ℕ) → valueOf v ≡ phiValue f i → w ≡ phiWord f i 2 → m ≡ phiInputs f i
     → _≡_ {A = Phi} (record { value = v; dead = eqb w 1; inputs = m }) (phiRecord f i)
-unfolding phiValue
+unfolding valueAt
 phi-is f i v w m p e h =
     phi-made f i (v .reg) (v .ver) (eqb w 1) m (ap (λ (u : DValue). u .reg) p) (ap (λ (u : DValue). u .ver) p) (ap (λ (x : ℕ). eqb x 1) e) h
 
