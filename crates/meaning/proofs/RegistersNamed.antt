@@ -1,17 +1,16 @@
 -- The registers that the file names, section by section.
-use mathlib.Core.Path.{_≡_, refl, ap, _∙_}
+use mathlib.Core.Path.{_≡_, refl}
 use mathlib.Core.Bool.{Bool, true, false, _&&_}
 use mathlib.Core.List.{List, _++_, map}
 use Prim.Native.Nat.{ℕ}
-use borrow.Author.Tests.{eq-eqb, ne-eqb}
 use Rattle.definition.specs.Edition.{args, phis, statements, expressions}
 use Rattle.definition.specs.Lists.{all, gather, range, allBelow}
-use Rattle.definition.specs.Contents.{size, argAt, exprWord}
+use Rattle.definition.specs.Contents.{size, argAt}
 use Rattle.definition.specs.Meaning.{isRegister, argRegs, phiValue, assigned, callReturns, itemValues, strict, loose, useRegister, registers}
-use Rattle.meaning.specs.Choice.{named}
 use Rattle.records.proofs.Also.{also}
 use Rattle.defined.proofs.Ranges.{all-map, all-gather}
 use Rattle.defined.proofs.Tested.{loose-all}
+use Rattle.each.specs.Rules.{named}
 
 module _ (f : List ℕ) where
   abbrev pub argNamed : ℕ → Bool
@@ -38,15 +37,6 @@ module _ (f : List ℕ) where
 
   pub loose-named : all named (loose f) ≡ allBelow (size f statements) looseNamed
   loose-named = loose-all f named
-
-  -- an expression whose tag w was read
-  pub use-not : (i w : ℕ) → w ≡ exprWord f i 0 → (w ≡ 2 → ⊥) → true ≡ useRegister f i
-  unfolding useRegister
-  use-not i w e h = rw (← e, ne-eqb w 2 h)
-
-  pub use-is : (i w r : ℕ) (t : Bool) → w ≡ exprWord f i 0 → w ≡ 2 → r ≡ exprWord f i 1 → t ≡ isRegister r → t ≡ useRegister f i
-  unfolding useRegister
-  use-is i w r t e h k l = rw (← e, eq-eqb w 2 h) (l ∙ ap isRegister k)
 
   pub registers-are : also (all isRegister (argRegs f)) (also (all named (strict f)) (also (all named (loose f)) (allBelow (size f expressions) (useRegister f))))
       ≡ registers f

@@ -1,19 +1,16 @@
 // Every register that the file names is one of the sixteen.
-use defined::value::Defined;
-use defined::value::REGISTERS;
-use defined::value::assigned_by;
 use defined::value::item_value;
 use defined::value::next_item;
-use defined::value::phi_value;
 use defined::value::returned_by;
+use each::Rule;
+use each::defined_named;
+use each::is_register;
+use each::records_right;
 use records::contents::ARGS;
 use records::contents::EXPRESSIONS;
 use records::contents::PHIS;
 use records::contents::STATEMENTS;
-use records::contents::arg_at;
-use records::contents::expr_word;
 use records::contents::size_of;
-use records::owners::USE;
 use records::owners::expr_items;
 use records::owners::value_items;
 ghost use mathlib.Core.Path.{_≡_};
@@ -25,75 +22,17 @@ ghost use Rattle.definition.specs.Lists.{all, allBelow};
 ghost use Rattle.definition.specs.Contents.{size};
 ghost use Rattle.definition.specs.Owners.{firstItem};
 ghost use Rattle.definition.specs.Shape.{owned};
-ghost use Rattle.definition.specs.Meaning.{isRegister, callReturns, itemValues, strict, loose, useRegister, registers};
-ghost use Rattle.defined.specs.Defined.{listOf, itemValue};
-ghost use Rattle.meaning.specs.Choice.{named, recordNamed};
-
-fn is_register(r: u32) -> bool
-    ensures { λ t. ⌜ t ≡ isRegister r ⌝ }
-{
-    r < REGISTERS
-}
-
-// The register of what a statement defines, if it defines a value.
-fn defined_named(d: Defined) -> bool
-    ensures { λ r. ⌜ r ≡ all named (listOf d) ⌝ }
-{
-    match d {
-        Defined::Nothing => true,
-        Defined::One(v) => is_register(v.reg),
-    }
-}
-
-fn use_named(f: &[u8], i: u32) -> bool
-    ensures { λ r. ⌜ r ≡ useRegister (now (f .entry)) i ⌝ }
-{
-    if expr_word(f, i, 0) != USE {
-        return true;
-    }
-    is_register(expr_word(f, i, 1))
-}
-
-// What names registers: arguments, phis, what Assigns define, and Uses.
-enum Naming {
-    Args,
-    Phis,
-    Assigns,
-    Uses,
-}
-
-fn record_named(f: &[u8], s: Naming, i: u32) -> bool
-    ensures { λ r. ⌜ r ≡ recordNamed (now (f .entry)) s i ⌝ }
-{
-    match s {
-        Naming::Args => is_register(arg_at(f, i)),
-        Naming::Phis => is_register(phi_value(f, i).reg),
-        Naming::Assigns => defined_named(assigned_by(f, i)),
-        Naming::Uses => use_named(f, i),
-    }
-}
-
-// The first n records.
-fn records_named(f: &[u8], s: Naming, n: u32) -> bool
-    ensures { λ r. ⌜ r ≡ allBelow n (recordNamed (now (f .entry)) s) ⌝ }
-{
-    let mut i = 0;
-    while i < n {
-        if !record_named(f, s, i) {
-            return false;
-        }
-        i += 1;
-    }
-    true
-}
+ghost use Rattle.definition.specs.Meaning.{callReturns, itemValues, strict, loose, registers};
+ghost use Rattle.defined.specs.Defined.{itemValue};
+ghost use Rattle.each.specs.Rules.{named};
 
 fn strict_named(f: &[u8]) -> bool
     ensures { λ r. ⌜ r ≡ all named (strict (now (f .entry))) ⌝ }
 {
-    if !records_named(f, Naming::Phis, size_of(f, PHIS)) {
+    if !records_right(f, Rule::PhiNamed, size_of(f, PHIS)) {
         return false;
     }
-    records_named(f, Naming::Assigns, size_of(f, STATEMENTS))
+    records_right(f, Rule::AssignNamed, size_of(f, STATEMENTS))
 }
 
 // The n items from place `from` on.
@@ -143,7 +82,7 @@ pub fn registers_named(f: &[u8]) -> bool
     requires { ⌜ owned (now f) ≡ true ⌝ }
     ensures { λ r. ⌜ r ≡ registers (now (f .entry)) ⌝ }
 {
-    if !records_named(f, Naming::Args, size_of(f, ARGS)) {
+    if !records_right(f, Rule::ArgNamed, size_of(f, ARGS)) {
         return false;
     }
     if !strict_named(f) {
@@ -152,5 +91,5 @@ pub fn registers_named(f: &[u8]) -> bool
     if !loose_named(f) {
         return false;
     }
-    records_named(f, Naming::Uses, size_of(f, EXPRESSIONS))
+    records_right(f, Rule::UseNamed, size_of(f, EXPRESSIONS))
 }

@@ -13,7 +13,7 @@ use Rattle.definition.specs.Values.{value}
 use Rattle.definition.specs.Meaning.{isRegister, argRegs, phiValue, assigned, callReturns, itemValues, strict, loose, useRegister, registers, valueAt}
 use Rattle.definition.proofs.LoweredRead.{below-at}
 use Rattle.definition.proofs.Bools.{both-true}
-use Rattle.meaning.specs.Choice.{named}
+use Rattle.each.specs.Rules.{named}
 use Rattle.defined.proofs.Ranges.{all-append, all-one, all-map}
 use Rattle.meaning.proofs.RegistersNamed.{argNamed, phiNamed, assignNamed, looseNamed, args-named, phis-named, assigns-named, loose-named}
 

@@ -1,7 +1,6 @@
 // Check 4: sections, owned counts, and every word in its place.
-use fields::block_shaped;
-use fields::expr_shaped;
-use fields::phi_shaped;
+use each::Rule;
+use each::records_right;
 use fields::stmt_shaped;
 use records::contents::BLOCKS;
 use records::contents::EXPRESSIONS;
@@ -20,38 +19,6 @@ ghost use Rattle.definition.specs.Edition.{statements};
 ghost use Rattle.definition.specs.Lists.{allBelow};
 ghost use Rattle.definition.specs.Shape.{owned, stmtShaped, shaped, refused4};
 ghost use Rattle.records.specs.Editions.{editionOf};
-ghost use Rattle.shape.specs.Records.{recordShaped};
-
-// The sections whose records are looked at one by one, with nothing carried along.
-enum Records {
-    Blocks,
-    Phis,
-    Exprs,
-}
-
-fn record_shaped(f: &[u8], s: Records, i: u32) -> bool
-    ensures { λ r. ⌜ r ≡ recordShaped (now (f .entry)) s i ⌝ }
-{
-    match s {
-        Records::Blocks => block_shaped(f, i),
-        Records::Phis => phi_shaped(f, i),
-        Records::Exprs => expr_shaped(f, i),
-    }
-}
-
-// The first n records of a section.
-fn records_shaped(f: &[u8], s: Records, n: u32) -> bool
-    ensures { λ r. ⌜ r ≡ allBelow n (recordShaped (now (f .entry)) s) ⌝ }
-{
-    let mut i = 0;
-    while i < n {
-        if !record_shaped(f, s, i) {
-            return false;
-        }
-        i += 1;
-    }
-    true
-}
 
 // Every statement. `at` is where its items begin: carried along, so that each item is looked at once.
 fn stmts_shaped(f: &[u8]) -> bool
@@ -76,9 +43,9 @@ fn shaped(f: &[u8]) -> bool
     requires { ⌜ owned (now f) ≡ true ⌝ }
     ensures { λ r. ⌜ r ≡ shaped (now (f .entry)) ⌝ }
 {
-    let blocks = records_shaped(f, Records::Blocks, size_of(f, BLOCKS));
-    let phis = records_shaped(f, Records::Phis, size_of(f, PHIS));
-    let exprs = records_shaped(f, Records::Exprs, size_of(f, EXPRESSIONS));
+    let blocks = records_right(f, Rule::BlockShaped, size_of(f, BLOCKS));
+    let phis = records_right(f, Rule::PhiShaped, size_of(f, PHIS));
+    let exprs = records_right(f, Rule::ExprShaped, size_of(f, EXPRESSIONS));
     (word_at(f, 8) <= 1) & blocks & phis & stmts_shaped(f) & exprs
 }
 

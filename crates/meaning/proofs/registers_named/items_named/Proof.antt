@@ -6,7 +6,7 @@ use borrow.Author.Needs.{needs}
 use native.Mathlib.Omega.{arith}
 use Rattle.definition.specs.Lists.{allBelow}
 use Rattle.defined.specs.Defined.{itemValue}
-use Rattle.meaning.specs.Choice.{named}
+use Rattle.each.specs.Rules.{named}
 use Rattle.records.proofs.Below.{all-start, all-turn, all-fail, all-done}
 use Rattle.meaning.proofs.registers_named.items_named.Statement.{statement}
 use Rattle.meaning.proofs.registers_named.items_named.Tie as tie

@@ -3,7 +3,7 @@ use mathlib.Core.Path.{ap, _∙_}
 use native.Mathlib.Omega.{arith}
 use borrow.Author.Needs.{needs}
 use Rattle.definition.specs.Lists.{all}
-use Rattle.meaning.specs.Choice.{named}
+use Rattle.each.specs.Rules.{named}
 use Rattle.defined.proofs.Values.{exprs-small, items-small}
 use Rattle.defined.proofs.Tested.{loose-stop, loose-go}
 use Rattle.meaning.proofs.registers_named.loose_named_at.Statement.{statement}

@@ -1,9 +1,9 @@
 -- Nothing names no register; of one value, its own register is what the list is tested for.
 use borrow.Author.Needs.{needs}
-use Rattle.meaning.specs.Choice.{named}
+use Rattle.each.specs.Rules.{named}
 use Rattle.defined.proofs.Tested.{none-all, one-all}
-use Rattle.meaning.proofs.registers_named.defined_named.Statement.{statement}
-use Rattle.meaning.proofs.registers_named.defined_named.Tie as tie
+use Rattle.each.proofs.defined_named.Statement.{statement}
+use Rattle.each.proofs.defined_named.Tie as tie
 
 enum-told : tie.Need-enum-told
 enum-told c = search needs

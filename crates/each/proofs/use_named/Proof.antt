@@ -1,8 +1,8 @@
 -- An expression that is no Use passes; of a Use word 1 is the register that is tested.
 use borrow.Author.Needs.{needs}
-use Rattle.meaning.proofs.RegistersNamed.{use-not, use-is}
-use Rattle.meaning.proofs.registers_named.use_named.Statement.{statement}
-use Rattle.meaning.proofs.registers_named.use_named.Tie as tie
+use Rattle.each.proofs.Uses.{use-not, use-is}
+use Rattle.each.proofs.use_named.Statement.{statement}
+use Rattle.each.proofs.use_named.Tie as tie
 
 expr-word-requires : tie.Need-expr-word-requires
 expr-word-requires c κs = search needs
