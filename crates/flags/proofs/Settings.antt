@@ -18,7 +18,7 @@ use Rattle.definition.specs.Condition as D
 use Rattle.definition.specs.Condition.{settingOf, lastSetter, setterOf}
 use Rattle.definition.proofs.Bools.{by-cond}
 use Rattle.ssa.proofs.Views.{through}
-use Rattle.statements.specs.Statement.{assignRecord, storeRecord, callRecord, branchRecord, flagsRecord, returnRecord, otherRecord, kindRecord, stmtRecord}
+use Rattle.statements.specs.Statement.{assignRecord, kindBy, kindRecord, stmtRecord}
 use Rattle.statements.specs.View.{viewKind}
 use Rattle.statements.specs.declared.statement.Assign.{Assign as AssignS}
 use Rattle.statements.specs.declared.statement.Flags.{Flags as FlagsS}
@@ -69,7 +69,7 @@ none-by E f (Other s) h = refl
 module _ (f : List ℕ) (i first : ℕ) where
   -- what it sets the flags by does not depend on its list items
   setting-view : (E : Edition) → settingOf (viewKind E f (allTrees E f) (kindRecord f i first)) ≡ settingOf (kindAt E f (allTrees E f) i)
-  unfolding viewKind kindRecord assignRecord storeRecord callRecord branchRecord flagsRecord returnRecord otherRecord kindAt settingOf
+  unfolding viewKind kindBy kindAt settingOf
   setting-view E =
       let s : Kind → Option D.Setting = λ k. settingOf (viewKind E f (allTrees E f) k) in
       let g = stmtKind f i in
@@ -91,7 +91,7 @@ module _ (f : List ℕ) (i first : ℕ) where
   assignOf d (Other s) = d
 
   assign-read : assignOf (assignRecord f i) (kindRecord f i first) ≡ assignRecord f i
-  unfolding assignOf kindRecord
+  unfolding assignOf kindBy
   assign-read =
       let g = stmtKind f i in
       let P : Kind → Type 0 = λ k. assignOf (assignRecord f i) k ≡ assignRecord f i in
@@ -128,7 +128,7 @@ module _ (f : List ℕ) (i first : ℕ) where
       assign-is = ap (assignOf (assignRecord f i)) (sym assigns ∙ kind-read) ∙ assign-read
 
       pub at-assign : (a .value .reg ≡ 4 → ⊥) → Is (Result i)
-      unfolding viewSetting setting settingOf viewKind assignRecord
+      unfolding viewSetting setting settingOf viewKind
       at-assign h = at-kind (Result i) (Assign a) assigns (λ E e. rw (ne-eqb (a .value .reg) 4 h, assign-is))
 
 -- ---- the last marked statement is the last setter

@@ -28,7 +28,7 @@ use Rattle.ssa.specs.declared.node.Load.{Load as LoadS}
 use Rattle.ssa.specs.declared.node.Node.{Node}
 use Rattle.ssa.specs.declared.node.Node.the-variants.{Const, Use as UseN, Bin as BinN, Un as UnN, Load, Opaque as OpaqueN}
 use Rattle.ssa.specs.declared.parts.Text.{Text}
-use Rattle.ssa.specs.Node.{useRecord, nodeRecord, nodeTag}
+use Rattle.ssa.specs.Node.{useRecord, nodeBy, nodeRecord, nodeTag}
 use Rattle.ssa.specs.View.{viewNode}
 use Rattle.ssa.proofs.Views.{node-view}
 use Rattle.defined.specs.declared.value.Value.{Value as ValueS}
@@ -52,7 +52,7 @@ other-tag : {A : Type 0} {x y : Node} → x ≡ y → (nodeTag x ≡ nodeTag y �
 other-tag e h = absurd (h (ap nodeTag e))
 
 pub use-record : (f : List ℕ) (n : ℕ) (v : ValueS) → nodeRecord f n ≡ UseN v → (exprWord f n 0 ≡ 2) × (v ≡ useRecord f n)
-unfolding nodeRecord nodeTag asUse
+unfolding nodeBy nodeTag asUse
 use-record f n v =
     let g = exprWord f n 0 in
     let P : Node → Type 0 = (λ (x : Node). x ≡ UseN v → (g ≡ 2) × (v ≡ useRecord f n)) in

@@ -11,7 +11,7 @@ use Rattle.definition.specs.Owners.{firstPhi, firstStmt}
 use Rattle.definition.specs.Ssa.{Expr}
 use Rattle.definition.specs.Read.{opText, tree, blockAt}
 use Rattle.ssa.specs.Block.{blockRecord}
-use Rattle.ssa.specs.Node.{textRecord, useRecord, binRecord, unRecord, loadRecord, nodeRecord}
+use Rattle.ssa.specs.Node.{nodeBy, nodeRecord}
 use Rattle.ssa.specs.View.{viewBlock, viewNode}
 use Rattle.ssa.specs.declared.node.Node.{Node}
 
@@ -23,7 +23,7 @@ through g h false x y u v p q = q
 
 -- ---- expressions
 pub node-view : (E : Edition) (f : List ℕ) (t : List Expr) (n : ℕ) → viewNode E f t (nodeRecord f n) ≡ tree E f t n
-unfolding viewNode nodeRecord textRecord useRecord binRecord unRecord loadRecord tree opText
+unfolding viewNode nodeBy tree opText
 node-view E f t n =
     let v : Node → Expr = viewNode E f t in
     let same : Expr → Expr = λ e. e in

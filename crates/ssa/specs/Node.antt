@@ -14,30 +14,33 @@ use Rattle.ssa.specs.declared.node.Node.{Node}
 use Rattle.ssa.specs.declared.node.Node.the-variants.{Const, Use, Bin, Un, Load, Opaque}
 
 -- an operator's text, or an Opaque's
-unfoldable pub textRecord : List ℕ → ℕ → Text
+abbrev pub textRecord : List ℕ → ℕ → Text
 textRecord f n = record { start = exprWord f n 1; len = exprWord f n 2 }
 
-unfoldable pub useRecord : List ℕ → ℕ → Value
+abbrev pub useRecord : List ℕ → ℕ → Value
 useRecord f n = record { reg = exprWord f n 1; ver = exprWord f n 2 }
 
-unfoldable pub binRecord : List ℕ → ℕ → BinS
+abbrev pub binRecord : List ℕ → ℕ → BinS
 binRecord f n = record { op = textRecord f n; left = exprWord f n 3; right = exprWord f n 4 }
 
-unfoldable pub unRecord : List ℕ → ℕ → UnS
+abbrev pub unRecord : List ℕ → ℕ → UnS
 unRecord f n = record { op = textRecord f n; child = exprWord f n 3 }
 
-unfoldable pub loadRecord : List ℕ → ℕ → LoadS
+abbrev pub loadRecord : List ℕ → ℕ → LoadS
 loadRecord f n = record { size = exprWord f n 1; child = exprWord f n 2 }
 
-unfoldable pub nodeRecord : List ℕ → ℕ → Node
-nodeRecord f n =
-    let g = exprWord f n 0 in
+-- expression n, were its tag g
+unfoldable pub nodeBy : List ℕ → ℕ → ℕ → Node
+nodeBy f n g =
     cond (eqb g tConst) (Const (exprLong f n 1))
     (cond (eqb g tUse) (Use (useRecord f n))
     (cond (eqb g tBin) (Bin (binRecord f n))
     (cond (eqb g tUn) (Un (unRecord f n))
     (cond (eqb g tLoad) (Load (loadRecord f n))
     (Opaque (textRecord f n))))))
+
+abbrev pub nodeRecord : List ℕ → ℕ → Node
+nodeRecord f n = nodeBy f n (exprWord f n 0)
 
 -- the tag that the file has for a node
 unfoldable pub nodeTag : Node → ℕ

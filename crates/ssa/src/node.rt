@@ -4,7 +4,7 @@ use defined::value::Value;
 use records::contents::expr_long;
 use records::contents::expr_word;
 ghost use mathlib.Core.Path.{_≡_};
-ghost use Rattle.ssa.specs.Node.{textRecord, useRecord, binRecord, unRecord, loadRecord, nodeRecord};
+ghost use Rattle.ssa.specs.Node.{nodeRecord};
 
 // The tags of expressions.
 pub const CONST: u32 = 1;
@@ -43,63 +43,25 @@ pub enum Node {
     Opaque(Text),
 }
 
-// An operator's text, or an Opaque's.
-fn text_at(f: &[u8], n: u32) -> Text
-    ensures { λ r. ⌜ r ≡ textRecord (now (f .entry)) n ⌝ }
-{
-    Text {
-        start: expr_word(f, n, 1),
-        len: expr_word(f, n, 2),
-    }
-}
-
-fn use_at(f: &[u8], n: u32) -> Value
-    ensures { λ r. ⌜ r ≡ useRecord (now (f .entry)) n ⌝ }
-{
-    Value {
-        reg: expr_word(f, n, 1),
-        ver: expr_word(f, n, 2),
-    }
-}
-
-fn bin_at(f: &[u8], n: u32) -> Bin
-    ensures { λ r. ⌜ r ≡ binRecord (now (f .entry)) n ⌝ }
-{
-    Bin {
-        op: text_at(f, n),
-        left: expr_word(f, n, 3),
-        right: expr_word(f, n, 4),
-    }
-}
-
-fn un_at(f: &[u8], n: u32) -> Un
-    ensures { λ r. ⌜ r ≡ unRecord (now (f .entry)) n ⌝ }
-{
-    Un {
-        op: text_at(f, n),
-        child: expr_word(f, n, 3),
-    }
-}
-
-fn load_at(f: &[u8], n: u32) -> Load
-    ensures { λ r. ⌜ r ≡ loadRecord (now (f .entry)) n ⌝ }
-{
-    Load {
-        size: expr_word(f, n, 1),
-        child: expr_word(f, n, 2),
-    }
-}
-
 // A number that is no tag reads as an Opaque, as in the definition; check 4 refuses it.
 pub fn node_at(f: &[u8], n: u32) -> Node
     ensures { λ r. ⌜ r ≡ nodeRecord (now (f .entry)) n ⌝ }
 {
+    let a = expr_word(f, n, 1);
+    let b = expr_word(f, n, 2);
     match expr_word(f, n, 0) {
         CONST => Node::Const(expr_long(f, n, 1)),
-        USE => Node::Use(use_at(f, n)),
-        BIN => Node::Bin(bin_at(f, n)),
-        UN => Node::Un(un_at(f, n)),
-        LOAD => Node::Load(load_at(f, n)),
-        _ => Node::Opaque(text_at(f, n)),
+        USE => Node::Use(Value { reg: a, ver: b }),
+        BIN => Node::Bin(Bin {
+            op: Text { start: a, len: b },
+            left: expr_word(f, n, 3),
+            right: expr_word(f, n, 4),
+        }),
+        UN => Node::Un(Un {
+            op: Text { start: a, len: b },
+            child: expr_word(f, n, 3),
+        }),
+        LOAD => Node::Load(Load { size: a, child: b }),
+        _ => Node::Opaque(Text { start: a, len: b }),
     }
 }

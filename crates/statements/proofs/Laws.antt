@@ -4,17 +4,13 @@ use mathlib.Core.List.{List}
 use Prim.Native.Nat.{ℕ, _+_, _-_, _/_, _%_, _≤_, _<_}
 use lib.Dec.{eqb}
 use borrow.Author.Tests.{le-leb, lt-leb, ne-eqb}
-use Rattle.definition.specs.Owners.{stmtKind}
-use Rattle.statements.specs.Items.{behindOf}
-use Rattle.statements.specs.Statement.{assignRecord, storeRecord, callRecord, branchRecord, flagsRecord, returnRecord, otherRecord, kindRecord, markOf}
-use Rattle.statements.specs.declared.statement.Assign.{Assign as AssignS}
-use Rattle.statements.specs.declared.statement.Store.{Store as StoreS}
-use Rattle.statements.specs.declared.statement.Call.{Call as CallS}
-use Rattle.statements.specs.declared.statement.Branch.{Branch as BranchS}
-use Rattle.statements.specs.declared.statement.Flags.{Flags as FlagsS}
-use Rattle.statements.specs.declared.statement.Return.{Return as ReturnS}
+use Rattle.definition.specs.Owners.{stmtKind, stmtField}
+use Rattle.statements.specs.Items.{behindOf, exprRun, valueRun}
+use Rattle.statements.specs.Statement.{callOf, branchOf, otherOf, kindBy, kindRecord, markOf}
+use Rattle.statements.specs.declared.items.Items.{Items}
 use Rattle.statements.specs.declared.statement.Other.{Other as OtherS}
-use Rattle.statements.specs.declared.statement.Kind.the-variants.{Assign, Store, Call, Branch, Flags, Return, Other}
+use Rattle.statements.specs.declared.statement.Kind.{Kind}
+use Rattle.statements.specs.declared.statement.Kind.the-variants.{Other}
 
 -- ---- places
 pub behind-fits : (a n : ℕ) → n ≤ 4294967295 - a → a + n ≡ behindOf a n
@@ -30,33 +26,30 @@ pub mark-is : (w : ℕ) → eqb (w / 2 % 2) 1 ≡ markOf w 2
 unfolding markOf
 mark-is w = refl
 
+-- ---- a kind of equal parts
+module _ (a b c x y z : ℕ) (p : a ≡ x) (q : b ≡ y) where
+  pub same-three : {A : Type 0} (g : ℕ → ℕ → ℕ → A) → c ≡ z → g a b c ≡ g x y z
+  same-three g r = rw (p, q, r)
+
+  pub same-call : (u v : Items) (d e m n : ℕ) (s t : Items) → u ≡ v → c ≡ z → d ≡ e → m ≡ n → s ≡ t → callOf a b u c d m s ≡ callOf x y v z e n t
+  same-call u v d e m n s t h r i j k = rw (p, q, h, r, i, j, k)
+
+  pub same-branch : (d e m n : ℕ) (u v : Items) → c ≡ z → d ≡ e → m ≡ n → u ≡ v → branchOf a b c d m u ≡ branchOf x y z e n v
+  same-branch d e m n u v r i j h = rw (p, q, r, i, j, h)
+
+  pub same-other : (u v s t : Items) → u ≡ v → s ≡ t → otherOf a b u s ≡ otherOf x y v t
+  same-other u v s t h k = rw (p, q, h, k)
+
 -- ---- a statement, whose kind k was read
 module _ (f : List ℕ) (i first k : ℕ) (kind : k ≡ stmtKind f i) where
-  pub is-assign : (s : AssignS) → k ≡ 1 → s ≡ assignRecord f i → Assign s ≡ kindRecord f i first
-  unfolding kindRecord
-  is-assign s e h = rw (sym kind ∙ e) (ap Assign h)
+  pub by-kind : (m : ℕ) (s : Kind) → k ≡ m → s ≡ kindBy f i first m → s ≡ kindRecord f i first
+  by-kind m s e h = h ∙ ap (kindBy f i first) (sym e ∙ kind)
 
-  pub is-store : (s : StoreS) → k ≡ 2 → s ≡ storeRecord f i → Store s ≡ kindRecord f i first
-  unfolding kindRecord
-  is-store s e h = rw (sym kind ∙ e) (ap Store h)
+  none : (k ≡ 1 → ⊥) → (k ≡ 2 → ⊥) → (k ≡ 3 → ⊥) → (k ≡ 4 → ⊥) → (k ≡ 5 → ⊥) → (k ≡ 6 → ⊥)
+      → Other (otherOf (stmtField f i 0) (stmtField f i 1) (exprRun f i first) (valueRun f i first)) ≡ kindBy f i first k
+  unfolding kindBy
+  none a b c d e g = rw (ne-eqb k 1 a, ne-eqb k 2 b, ne-eqb k 3 c, ne-eqb k 4 d, ne-eqb k 5 e, ne-eqb k 6 g)
 
-  pub is-call : (s : CallS) → k ≡ 3 → s ≡ callRecord f i first → Call s ≡ kindRecord f i first
-  unfolding kindRecord
-  is-call s e h = rw (sym kind ∙ e) (ap Call h)
-
-  pub is-branch : (s : BranchS) → k ≡ 4 → s ≡ branchRecord f i first → Branch s ≡ kindRecord f i first
-  unfolding kindRecord
-  is-branch s e h = rw (sym kind ∙ e) (ap Branch h)
-
-  pub is-flags : (s : FlagsS) → k ≡ 5 → s ≡ flagsRecord f i → Flags s ≡ kindRecord f i first
-  unfolding kindRecord
-  is-flags s e h = rw (sym kind ∙ e) (ap Flags h)
-
-  pub is-return : (s : ReturnS) → k ≡ 6 → s ≡ returnRecord f i → Return s ≡ kindRecord f i first
-  unfolding kindRecord
-  is-return s e h = rw (sym kind ∙ e) (ap Return h)
-
-  pub is-other : (s : OtherS) → (k ≡ 1 → ⊥) → (k ≡ 2 → ⊥) → (k ≡ 3 → ⊥) → (k ≡ 4 → ⊥) → (k ≡ 5 → ⊥) → (k ≡ 6 → ⊥)
-      → s ≡ otherRecord f i first → Other s ≡ kindRecord f i first
-  unfolding kindRecord
-  is-other s a b c d e g h = rw (← kind, ne-eqb k 1 a, ne-eqb k 2 b, ne-eqb k 3 c, ne-eqb k 4 d, ne-eqb k 5 e, ne-eqb k 6 g) (ap Other h)
+  pub by-none : (s : OtherS) → (k ≡ 1 → ⊥) → (k ≡ 2 → ⊥) → (k ≡ 3 → ⊥) → (k ≡ 4 → ⊥) → (k ≡ 5 → ⊥) → (k ≡ 6 → ⊥)
+      → s ≡ otherOf (stmtField f i 0) (stmtField f i 1) (exprRun f i first) (valueRun f i first) → Other s ≡ kindRecord f i first
+  by-none s a b c d e g h = by-kind k (Other s) refl (ap Other h ∙ none a b c d e g)

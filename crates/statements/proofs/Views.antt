@@ -26,7 +26,7 @@ use Rattle.definition.specs.Read.{treeAt, kindAt, marked, stmtAt}
 use Rattle.records.proofs.Items.{items-few, exprs-fit}
 use Rattle.ssa.proofs.Views.{through}
 use Rattle.statements.specs.Items.{behindOf, exprRun, valueRun}
-use Rattle.statements.specs.Statement.{assignRecord, storeRecord, callRecord, branchRecord, flagsRecord, returnRecord, otherRecord, kindRecord, kindNumber, stmtRecord, markOf}
+use Rattle.statements.specs.Statement.{kindBy, kindRecord, kindNumber, stmtRecord, markOf}
 use Rattle.statements.specs.View.{viewExprs, viewValues, viewKind, viewStmt}
 use Rattle.statements.specs.declared.statement.Kind.{Kind}
 use Rattle.statements.proofs.Laws.{behind-fits}
@@ -58,7 +58,7 @@ module _ (E : Edition) (f : List ℕ) (t : List Expr) (i : ℕ) where
       ap (λ (a : ℕ). map (λ (k : ℕ). value (itemWord f (a + k) 0) (itemWord f (a + k) 1)) (range 0 (valueItems f i))) e
 
   pub kind-view : Placed f i → viewKind E f t (kindRecord f i (firstItem f i)) ≡ kindAt E f t i
-  unfolding viewKind kindRecord assignRecord storeRecord callRecord branchRecord flagsRecord returnRecord otherRecord kindAt
+  unfolding viewKind kindBy kindAt
   kind-view h =
       let v : Kind → DKind = viewKind E f t in
       let same : DKind → DKind = λ x. x in
@@ -94,7 +94,7 @@ numbered g k n x y p q = go (eqb k n) refl
     go false e = q (eqb-false k n e)
 
 pub kind-number : (f : List ℕ) (i first : ℕ) → 1 ≤ stmtKind f i → stmtKind f i ≤ 7 → kindNumber (kindRecord f i first) ≡ stmtKind f i
-unfolding kindNumber kindRecord
+unfolding kindNumber kindBy
 kind-number f i first l h =
     let g : Kind → ℕ = kindNumber in
     let k = stmtKind f i in

@@ -7,6 +7,7 @@ use Rattle.definition.specs.Codes.{kAssign, kStore, kCall, kBranch, kFlags, kRe
 use Rattle.definition.specs.Contents.{stmtWord, stmtLong}
 use Rattle.definition.specs.Owners.{stmtKind, stmtField}
 use Rattle.statements.specs.Items.{exprRun, valueRun}
+use Rattle.statements.specs.declared.items.Items.{Items}
 use Rattle.statements.specs.declared.statement.Assign.{Assign as AssignS}
 use Rattle.statements.specs.declared.statement.Store.{Store as StoreS}
 use Rattle.statements.specs.declared.statement.Call.{Call as CallS}
@@ -18,50 +19,57 @@ use Rattle.statements.specs.declared.statement.Stmt.{Stmt}
 use Rattle.statements.specs.declared.statement.Kind.{Kind}
 use Rattle.statements.specs.declared.statement.Kind.the-variants.{Assign, Store, Call, Branch, Flags, Return, Other}
 
-unfoldable pub assignRecord : List ℕ → ℕ → AssignS
-assignRecord f i = record { value = record { reg = stmtField f i 0; ver = stmtField f i 1 }; expr = stmtField f i 2 }
+-- each kind from the fields a b c .. and what only that kind has
+abbrev pub assignOf : ℕ → ℕ → ℕ → AssignS
+assignOf a b c = record { value = record { reg = a; ver = b }; expr = c }
 
-unfoldable pub storeRecord : List ℕ → ℕ → StoreS
-storeRecord f i = record { size = stmtField f i 0; address = stmtField f i 1; value = stmtField f i 2 }
+abbrev pub storeOf : ℕ → ℕ → ℕ → StoreS
+storeOf a b c = record { size = a; address = b; value = c }
 
-unfoldable pub callRecord : List ℕ → ℕ → ℕ → CallS
-callRecord f i first = record {
-  target = record { start = stmtField f i 0; len = stmtField f i 1 };
-  args = exprRun f i first;
-  returned = record { there = eqb (stmtField f i 3) 1; value = record { reg = stmtField f i 4; ver = stmtField f i 5 } };
-  clobbers = valueRun f i first;
+abbrev pub callOf : ℕ → ℕ → Items → ℕ → ℕ → ℕ → Items → CallS
+callOf a b args there reg ver clobbers = record {
+  target = record { start = a; len = b };
+  args = args;
+  returned = record { there = eqb there 1; value = record { reg = reg; ver = ver } };
+  clobbers = clobbers;
 }
 
-unfoldable pub branchRecord : List ℕ → ℕ → ℕ → BranchS
-branchRecord f i first = record {
-  condition = record { there = eqb (stmtField f i 0) 1; text = record { start = stmtField f i 1; len = stmtField f i 2 } };
-  target = record { there = eqb (stmtField f i 3) 1; address = stmtLong f i 8 };
-  uses = exprRun f i first;
+abbrev pub branchOf : ℕ → ℕ → ℕ → ℕ → ℕ → Items → BranchS
+branchOf a b c there address uses = record {
+  condition = record { there = eqb a 1; text = record { start = b; len = c } };
+  target = record { there = eqb there 1; address = address };
+  uses = uses;
 }
 
-unfoldable pub flagsRecord : List ℕ → ℕ → FlagsS
-flagsRecord f i = record { test = eqb (stmtField f i 0) 1; left = stmtField f i 1; right = stmtField f i 2 }
+abbrev pub flagsOf : ℕ → ℕ → ℕ → FlagsS
+flagsOf a b c = record { test = eqb a 1; left = b; right = c }
 
-unfoldable pub returnRecord : List ℕ → ℕ → ReturnS
-returnRecord f i = record { there = eqb (stmtField f i 0) 1; expr = stmtField f i 1 }
+abbrev pub returnOf : ℕ → ℕ → ReturnS
+returnOf a b = record { there = eqb a 1; expr = b }
 
-unfoldable pub otherRecord : List ℕ → ℕ → ℕ → OtherS
-otherRecord f i first = record {
-  text = record { start = stmtField f i 0; len = stmtField f i 1 };
-  uses = exprRun f i first;
-  defs = valueRun f i first;
-}
+abbrev pub otherOf : ℕ → ℕ → Items → Items → OtherS
+otherOf a b uses defs = record { text = record { start = a; len = b }; uses = uses; defs = defs }
 
-unfoldable pub kindRecord : List ℕ → ℕ → ℕ → Kind
-kindRecord f i first =
-    let k = stmtKind f i in
-    cond (eqb k kAssign) (Assign (assignRecord f i))
-    (cond (eqb k kStore) (Store (storeRecord f i))
-    (cond (eqb k kCall) (Call (callRecord f i first))
-    (cond (eqb k kBranch) (Branch (branchRecord f i first))
-    (cond (eqb k kFlags) (Flags (flagsRecord f i))
-    (cond (eqb k kReturn) (Return (returnRecord f i))
-    (Other (otherRecord f i first)))))))
+-- an Assign as it is read
+abbrev pub assignRecord : List ℕ → ℕ → AssignS
+assignRecord f i = assignOf (stmtField f i 0) (stmtField f i 1) (stmtField f i 2)
+
+-- statement i, were its kind k
+unfoldable pub kindBy : List ℕ → ℕ → ℕ → ℕ → Kind
+kindBy f i first k =
+    let a = stmtField f i 0 in
+    let b = stmtField f i 1 in
+    let c = stmtField f i 2 in
+    cond (eqb k kAssign) (Assign (assignOf a b c))
+    (cond (eqb k kStore) (Store (storeOf a b c))
+    (cond (eqb k kCall) (Call (callOf a b (exprRun f i first) (stmtField f i 3) (stmtField f i 4) (stmtField f i 5) (valueRun f i first)))
+    (cond (eqb k kBranch) (Branch (branchOf a b c (stmtField f i 3) (stmtLong f i 8) (exprRun f i first)))
+    (cond (eqb k kFlags) (Flags (flagsOf a b c))
+    (cond (eqb k kReturn) (Return (returnOf a b))
+    (Other (otherOf a b (exprRun f i first) (valueRun f i first))))))))
+
+abbrev pub kindRecord : List ℕ → ℕ → ℕ → Kind
+kindRecord f i first = kindBy f i first (stmtKind f i)
 
 -- the number that the file has for a kind
 unfoldable pub kindNumber : Kind → ℕ

@@ -2,7 +2,7 @@
 use records::owners::expr_items;
 use records::owners::value_items;
 ghost use mathlib.Core.Path.{_≡_};
-ghost use Rattle.statements.specs.Items.{behindOf, exprRun, valueRun};
+ghost use Rattle.statements.specs.Items.{exprRun, valueRun};
 
 // A run of list items, by place.
 pub struct Items {
@@ -10,15 +10,8 @@ pub struct Items {
     pub count: u32,
 }
 
-// The place n behind `first`, or the last place where the sum leaves 32 bits, which no file does that check 4 accepts.
-fn behind(first: u32, n: u32) -> u32
-    ensures { λ r. ⌜ r ≡ behindOf first n ⌝ }
-{
-    if n <= 4294967295 - first {
-        return first + n;
-    }
-    4294967295
-}
+// The last place that there is.
+const LAST: u32 = 4294967295;
 
 // The expressions among the items of statement i, which begin at `first`.
 pub fn expr_run(f: &[u8], i: u32, first: u32) -> Items
@@ -30,12 +23,17 @@ pub fn expr_run(f: &[u8], i: u32, first: u32) -> Items
     }
 }
 
-// The values, which stand behind the expressions.
+// The values, which stand behind the expressions: at the last place where that one leaves 32 bits, which no file does that check 4 accepts.
 pub fn value_run(f: &[u8], i: u32, first: u32) -> Items
     ensures { λ r. ⌜ r ≡ valueRun (now (f .entry)) i first ⌝ }
 {
-    Items {
-        first: behind(first, expr_items(f, i)),
-        count: value_items(f, i),
+    let n = expr_items(f, i);
+    let count = value_items(f, i);
+    if n <= LAST - first {
+        return Items {
+            first: first + n,
+            count,
+        };
     }
+    Items { first: LAST, count }
 }

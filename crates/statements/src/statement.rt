@@ -16,7 +16,7 @@ use records::owners::stmt_kind;
 use ssa::parts::Destination;
 use ssa::parts::Text;
 ghost use mathlib.Core.Path.{_≡_};
-ghost use Rattle.statements.specs.Statement.{assignRecord, storeRecord, callRecord, branchRecord, flagsRecord, returnRecord, otherRecord};
+ghost use Rattle.statements.specs.Statement.{assignOf, storeOf, callOf, branchOf, flagsOf, returnOf, otherOf};
 ghost use Rattle.statements.specs.Statement.{kindRecord, stmtRecord, markOf};
 
 // `value` becomes the expression.
@@ -101,96 +101,82 @@ impl Stmt {
     }
 }
 
-fn assign_at(f: &[u8], i: u32) -> Assign
-    ensures { λ r. ⌜ r ≡ assignRecord (now (f .entry)) i ⌝ }
+// Each kind from what it is read off: the first fields of the statement, and what only that kind has.
+fn assign_of(a: u32, b: u32, c: u32) -> Assign
+    ensures { λ r. ⌜ r ≡ assignOf a b c ⌝ }
 {
     Assign {
-        value: Value {
-            reg: stmt_field(f, i, 0),
-            ver: stmt_field(f, i, 1),
-        },
-        expr: stmt_field(f, i, 2),
+        value: Value { reg: a, ver: b },
+        expr: c,
     }
 }
 
-fn store_at(f: &[u8], i: u32) -> Store
-    ensures { λ r. ⌜ r ≡ storeRecord (now (f .entry)) i ⌝ }
+fn store_of(a: u32, b: u32, c: u32) -> Store
+    ensures { λ r. ⌜ r ≡ storeOf a b c ⌝ }
 {
     Store {
-        size: stmt_field(f, i, 0),
-        address: stmt_field(f, i, 1),
-        value: stmt_field(f, i, 2),
+        size: a,
+        address: b,
+        value: c,
     }
 }
 
-fn call_at(f: &[u8], i: u32, first: u32) -> Call
-    ensures { λ r. ⌜ r ≡ callRecord (now (f .entry)) i first ⌝ }
+fn call_of(a: u32, b: u32, args: Items, there: u32, reg: u32, ver: u32, clobbers: Items) -> Call
+    ensures { λ r. ⌜ r ≡ callOf a b args there reg ver clobbers ⌝ }
 {
     Call {
-        target: Text {
-            start: stmt_field(f, i, 0),
-            len: stmt_field(f, i, 1),
-        },
-        args: expr_run(f, i, first),
+        target: Text { start: a, len: b },
+        args,
         returned: Returned {
-            there: stmt_field(f, i, 3) == 1,
-            value: Value {
-                reg: stmt_field(f, i, 4),
-                ver: stmt_field(f, i, 5),
-            },
+            there: there == 1,
+            value: Value { reg, ver },
         },
-        clobbers: value_run(f, i, first),
+        clobbers,
     }
 }
 
-fn branch_at(f: &[u8], i: u32, first: u32) -> Branch
-    ensures { λ r. ⌜ r ≡ branchRecord (now (f .entry)) i first ⌝ }
+fn branch_of(a: u32, b: u32, c: u32, there: u32, address: u64, uses: Items) -> Branch
+    ensures { λ r. ⌜ r ≡ branchOf a b c there address uses ⌝ }
 {
     Branch {
         condition: Condition {
-            there: stmt_field(f, i, 0) == 1,
-            text: Text {
-                start: stmt_field(f, i, 1),
-                len: stmt_field(f, i, 2),
-            },
+            there: a == 1,
+            text: Text { start: b, len: c },
         },
         target: Destination {
-            there: stmt_field(f, i, 3) == 1,
-            address: stmt_long(f, i, 8),
+            there: there == 1,
+            address,
         },
-        uses: expr_run(f, i, first),
+        uses,
     }
 }
 
-fn flags_at(f: &[u8], i: u32) -> Flags
-    ensures { λ r. ⌜ r ≡ flagsRecord (now (f .entry)) i ⌝ }
+fn flags_of(a: u32, b: u32, c: u32) -> Flags
+    ensures { λ r. ⌜ r ≡ flagsOf a b c ⌝ }
 {
     Flags {
-        test: stmt_field(f, i, 0) == 1,
-        left: stmt_field(f, i, 1),
-        right: stmt_field(f, i, 2),
+        test: a == 1,
+        left: b,
+        right: c,
     }
 }
 
-fn return_at(f: &[u8], i: u32) -> Return
-    ensures { λ r. ⌜ r ≡ returnRecord (now (f .entry)) i ⌝ }
+fn return_of(a: u32, b: u32) -> Return
+    ensures { λ r. ⌜ r ≡ returnOf a b ⌝ }
 {
     Return {
-        there: stmt_field(f, i, 0) == 1,
-        expr: stmt_field(f, i, 1),
+        there: a == 1,
+        expr: b,
     }
 }
 
-fn other_at(f: &[u8], i: u32, first: u32) -> Other
-    ensures { λ r. ⌜ r ≡ otherRecord (now (f .entry)) i first ⌝ }
+fn other_of(a: u32, b: u32, uses: Items, defs: Items) -> Other
+    ensures { λ r. ⌜ r ≡ otherOf a b uses defs ⌝ }
 {
     Other {
-        text: Text {
-            start: stmt_field(f, i, 0),
-            len: stmt_field(f, i, 1),
-        },
-        uses: expr_run(f, i, first),
-        defs: value_run(f, i, first),
+        text: Text { start: a, len: b },
+        uses,
+        defs,
     }
 }
 
@@ -198,14 +184,32 @@ fn other_at(f: &[u8], i: u32, first: u32) -> Other
 fn kind_at(f: &[u8], i: u32, first: u32) -> Kind
     ensures { λ r. ⌜ r ≡ kindRecord (now (f .entry)) i first ⌝ }
 {
+    let a = stmt_field(f, i, 0);
+    let b = stmt_field(f, i, 1);
+    let c = stmt_field(f, i, 2);
     match stmt_kind(f, i) {
-        ASSIGN => Kind::Assign(assign_at(f, i)),
-        STORE => Kind::Store(store_at(f, i)),
-        CALL => Kind::Call(call_at(f, i, first)),
-        BRANCH => Kind::Branch(branch_at(f, i, first)),
-        FLAGS => Kind::Flags(flags_at(f, i)),
-        RETURN => Kind::Return(return_at(f, i)),
-        _ => Kind::Other(other_at(f, i, first)),
+        ASSIGN => Kind::Assign(assign_of(a, b, c)),
+        STORE => Kind::Store(store_of(a, b, c)),
+        CALL => Kind::Call(call_of(
+            a,
+            b,
+            expr_run(f, i, first),
+            stmt_field(f, i, 3),
+            stmt_field(f, i, 4),
+            stmt_field(f, i, 5),
+            value_run(f, i, first),
+        )),
+        BRANCH => Kind::Branch(branch_of(
+            a,
+            b,
+            c,
+            stmt_field(f, i, 3),
+            stmt_long(f, i, 8),
+            expr_run(f, i, first),
+        )),
+        FLAGS => Kind::Flags(flags_of(a, b, c)),
+        RETURN => Kind::Return(return_of(a, b)),
+        _ => Kind::Other(other_of(a, b, expr_run(f, i, first), value_run(f, i, first))),
     }
 }
 
