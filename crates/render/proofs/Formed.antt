@@ -72,7 +72,7 @@ useForm (Through s) = 0
 
 module _ (E : Edition) (f : List ℕ) (n r : ℕ) where
   use-node : (x : Node) → nodeRecord f n ≡ x → useForm (nodeForm E f n x) ≡ suc r → (exprWord f n 0 ≡ 2) × (r ≡ exprWord f n 1)
-  unfolding nodeForm useForm binForm loadForm slotForm useRecord
+  unfolding nodeForm useForm binForm loadForm slotForm
   use-node (Const c) e q = absurd (omega arith)
   use-node (UseN v) e q = let u = use-record f n v e in (u .0, omega (arith, ap (λ (w : ValueS). w .reg) (u .1)))
   use-node (BinN s) e q = by-cond (λ x. useForm x ≡ suc r → (exprWord f n 0 ≡ 2) × (r ≡ exprWord f n 1)) (eqb (offAt E f n) 0) (λ b z. absurd (omega arith)) (λ b z. absurd (omega arith)) q
@@ -184,7 +184,7 @@ module _ (E : Edition) (f : List ℕ) where
               (ap (globalOf (G .supplied) (s .size)) (past h)))
 
       form-node : (top : Bool) (x : Node) → nodeRecord f n ≡ x → expr G top (viewNode E f (trees E f n) x) ≡ formTokens E f pos n top (nodeForm E f n x)
-      unfolding expr viewNode nodeForm formTokens leafTokens used useRecord
+      unfolding expr viewNode nodeForm formTokens leafTokens used
       form-node top (Const c) e = refl
       form-node top (UseN v) e = ap (λ (w : ℕ). expr G top (DUse (value (v .reg) w))) (ap (λ (w : ValueS). w .ver) (use-record f n v e .1))
       form-node top (BinN s) e = form-bin top s e
