@@ -1,5 +1,5 @@
 -- A comparison's tokens, piece by piece: each side by what it is, and the sign between them.
-use mathlib.Core.Path.{_≡_}
+use mathlib.Core.Path.{_≡_, refl, ap, _∙_}
 use mathlib.Core.Bool.{Bool, true, false}
 use mathlib.Core.List.{List, [], _∷_, _++_}
 use Prim.Native.Nat.{ℕ}
@@ -11,7 +11,8 @@ use Rattle.flags.specs.declared.comparison.Side.{Side}
 use Rattle.flags.specs.declared.comparison.Side.the-variants.{Left, Right, Difference, Both, Nought}
 use Rattle.flags.specs.declared.comparison.Shown.{Shown}
 use Rattle.room.specs.Room.{Room, emit, emitAll, seen}
-use Rattle.room.proofs.Laws.{next, more, done, one}
+use Rattle.room.proofs.Laws.{next, more, one}
+use Rattle.pieces.specs.Spelled.{given}
 use Rattle.conditions.specs.Printed.{viewSide, viewSign, viewShown, between}
 
 pub between-put : (r r₄ r₃ r₂ r₁ r₀ : Room) (x y : List Token) (op : List ℕ)
@@ -55,16 +56,13 @@ pub sign-put : (r r₀ : Room) (s k : Sign) → s ≡ k → r ≡ emit r₀ (pun
 sign-put r r₀ s k h e = rw h e
 
 -- ---- the whole
-pub unsigned-put : (r r₀ : Room) (u : Bool) → u ≡ true → r ≡ emit r₀ (keyword (txt "(unsigned)")) → seen r ≡ seen (emitAll r₀ (unsignedTokens u))
-unfolding unsignedTokens
-unsigned-put r r₀ u h e = rw h (one r r₀ (keyword (txt "(unsigned)")) e)
-
-pub none-put : (r : Room) (u : Bool) → u ≡ false → seen r ≡ seen (emitAll r (unsignedTokens u))
-unfolding unsignedTokens
-none-put r u h = rw h (done r)
+unsigned-is : (u : Bool) → given u (keyword (txt "(unsigned)")) ≡ unsignedTokens u
+unfolding given unsignedTokens
+unsigned-is true = refl
+unsigned-is false = refl
 
 pub shown-put : (r r₃ r₂ r₁ r₀ : Room) (x y : List Token) (c : Shown)
-    → seen r₁ ≡ seen (emitAll r₀ (unsignedTokens (c .unsigned))) → seen r₂ ≡ seen (emitAll r₁ (sideTokens x y (viewSide (c .lhs))))
+    → r₁ ≡ emitAll r₀ (given (c .unsigned) (keyword (txt "(unsigned)"))) → seen r₂ ≡ seen (emitAll r₁ (sideTokens x y (viewSide (c .lhs))))
     → r₃ ≡ emit r₂ (punct (signText (viewSign (c .sign)))) → seen r ≡ seen (emitAll r₃ (sideTokens x y (viewSide (c .rhs))))
     → seen r ≡ seen (emitAll r₀ (shownTokens x y (viewShown c)))
 unfolding shownTokens viewShown
@@ -72,4 +70,5 @@ shown-put r r₃ r₂ r₁ r₀ x y c a b d e =
     let p = punct (signText (viewSign (c .sign))) in
     let behind : List Token = sideTokens x y (viewSide (c .rhs)) in
     let before : List Token = sideTokens x y (viewSide (c .lhs)) in
-    more r r₂ r₀ (unsignedTokens (c .unsigned) ++ before) (p ∷ behind) (more r₂ r₁ r₀ (unsignedTokens (c .unsigned)) before a b) (next r r₂ p behind d e)
+    let front = a ∙ ap (emitAll r₀) (unsigned-is (c .unsigned)) in
+    more r r₂ r₀ (unsignedTokens (c .unsigned) ++ before) (p ∷ behind) (more r₂ r₁ r₀ (unsignedTokens (c .unsigned)) before (ap seen front) b) (next r r₂ p behind d e)

@@ -5,13 +5,14 @@ use flags::comparison::Shown;
 use flags::comparison::Side;
 use flags::comparison::Sign;
 use pieces::put::put;
+use pieces::put::put_if;
 use places::Places;
 use room::out::Out;
 ghost use mathlib.Core.Path.{_≡_};
 ghost use Rattle.definition.specs.Edition.{Edition};
 ghost use Rattle.definition.specs.Contents.{text as textOf};
 ghost use Rattle.definition.specs.Tokens.{punct};
-ghost use Rattle.definition.specs.Condition.{signText, sideTokens, unsignedTokens, shownTokens};
+ghost use Rattle.definition.specs.Condition.{signText, sideTokens, shownTokens};
 ghost use Rattle.room.specs.Room.{roomOf, emit, emitAll, seen};
 ghost use Rattle.render.specs.Told.{Told};
 ghost use Rattle.conditions.specs.Pairs.{operandTokens, Fits};
@@ -179,16 +180,6 @@ fn put_sign(tokens: &mut [u64], text: &mut [u8], out: Out, sign: Sign) -> Out
     }
 }
 
-fn put_unsigned(tokens: &mut [u64], text: &mut [u8], out: Out, unsigned: bool) -> Out
-    ensures { λ r. ⌜ seen (roomOf (now (tokens .exit)) (now (text .exit)) r)
-        ≡ seen (emitAll (roomOf (now (tokens .entry)) (now (text .entry)) out) (unsignedTokens unsigned)) ⌝ }
-{
-    if unsigned {
-        return put(tokens, text, out, KEYWORD, b"(unsigned)");
-    }
-    out
-}
-
 // The comparison c of the operands p.
 pub fn put_shown(
     tokens: &mut [u64],
@@ -213,7 +204,7 @@ pub fn put_shown(
     let lhs = c.lhs;
     let sign = c.sign;
     let rhs = c.rhs;
-    let out = put_unsigned(tokens, text, out, c.unsigned);
+    let out = put_if(tokens, text, out, KEYWORD, b"(unsigned)", c.unsigned);
     let out = put_side(
         tokens,
         text,

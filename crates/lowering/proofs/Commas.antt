@@ -19,19 +19,11 @@ use Rattle.definition.specs.Lower.{commaList}
 use Rattle.definition.proofs.Bools.{by-test, by-cond}
 use Rattle.records.proofs.Editions.{length-range}
 use Rattle.records.proofs.Ranges.{shift, take-less, take-map}
-use Rattle.room.specs.Room.{Room, emit, emitAll, seen}
+use Rattle.room.specs.Room.{Room, emitAll, seen}
 use Rattle.room.proofs.Laws.{more, done, pieces-are}
+use Rattle.pieces.specs.Spelled.{given}
 use Rattle.lowering.specs.Lowered.{loweringOf, exprOf}
-use Rattle.lowering.specs.Commas.{comma, argOf, argsOf, treesOf, listed, least}
-
--- ---- the sign between
-pub comma-put : (r₁ r : Room) (b : Bool) → b ≡ true → r₁ ≡ emit r (punct (txt ", ")) → r₁ ≡ emitAll r (comma b)
-unfolding comma emitAll
-comma-put r₁ r b e h = rw e h
-
-pub comma-none : (r : Room) (b : Bool) → b ≡ false → r ≡ emitAll r (comma b)
-unfolding comma emitAll
-comma-none r b e = rw e
+use Rattle.lowering.specs.Commas.{argOf, argsOf, treesOf, listed, least}
 
 -- no pieces
 pub none-are : (r : Room) (qs : List Token) → qs ≡ [] → seen r ≡ seen (emitAll r qs)
@@ -82,13 +74,13 @@ take-listed E f c a n =
 module _ (E : Edition) (f : List ℕ) where
   -- ---- as the definition has them
   rest-are : (ns : List ℕ) → argsOf E f true ns ≡ gather (λ y. punct (txt ", ") ∷ e (loweringOf E f .gen) y) (treesOf E f ns)
-  unfolding argsOf argOf exprOf comma gather treesOf
+  unfolding argsOf argOf exprOf given gather treesOf
   rest-are [] = refl
   rest-are (n ∷ ns) =
       ap (λ (l : List Token). punct (txt ", ") ∷ (e (loweringOf E f .gen) (treeAt (allTrees E f) n) ++ l)) (rest-are ns)
 
   pub args-are : (ns : List ℕ) → argsOf E f false ns ≡ commaList (loweringOf E f) (treesOf E f ns)
-  unfolding argsOf argOf exprOf comma commaList treesOf
+  unfolding argsOf argOf exprOf given commaList treesOf
   args-are [] = refl
   args-are (n ∷ ns) = ap (λ (l : List Token). e (loweringOf E f .gen) (treeAt (allTrees E f) n) ++ l) (rest-are ns)
 

@@ -1,6 +1,6 @@
 // Expressions with `, ` between them.
 use crate::kinds::PUNCT;
-use pieces::put::put;
+use pieces::put::put_if;
 use places::Places;
 use records::contents::STATEMENTS;
 use records::contents::item_word;
@@ -18,7 +18,7 @@ ghost use Rattle.definition.specs.Lower.{commaList};
 ghost use Rattle.room.specs.Room.{roomOf, emitAll, seen};
 ghost use Rattle.render.specs.Told.{Told};
 ghost use Rattle.lowering.specs.Lowered.{loweringOf, exprOf};
-ghost use Rattle.lowering.specs.Commas.{comma, argOf, least};
+ghost use Rattle.lowering.specs.Commas.{argOf, least};
 
 // The lesser of two numbers.
 pub fn least_of(a: u32, b: u32) -> u32
@@ -28,17 +28,6 @@ pub fn least_of(a: u32, b: u32) -> u32
         return a;
     }
     b
-}
-
-// Before an expression that is not the first.
-fn put_comma(tokens: &mut [u64], text: &mut [u8], out: Out, more: bool) -> Out
-    ensures { λ r. ⌜ roomOf (now (tokens .exit)) (now (text .exit)) r
-        ≡ emitAll (roomOf (now (tokens .entry)) (now (text .entry)) out) (comma more) ⌝ }
-{
-    if more {
-        return put(tokens, text, out, PUNCT, b", ");
-    }
-    out
 }
 
 // Expression n. Behind the last statement every value written in place is open.
@@ -96,7 +85,7 @@ pub fn put_arg(
     ensures { λ r. ⌜ ((E : Edition) → textOf E ≡ t → seen (roomOf (now (tokens .exit)) (now (text .exit)) r)
         ≡ seen (emitAll (roomOf (now (tokens .entry)) (now (text .entry)) out) (argOf E (now (f .entry)) more n))) ⌝ }
 {
-    let out = put_comma(tokens, text, out, more);
+    let out = put_if(tokens, text, out, PUNCT, b", ", more);
     put_expr(
         tokens,
         text,

@@ -1,10 +1,12 @@
 -- What each piece spells, by the definition's texts; f is what is lent with it.
-use mathlib.Core.List.{List, _++_}
+use mathlib.Core.Bool.{Bool, cond}
+use mathlib.Core.List.{List, [], _∷_, _++_}
 use Prim.Native.Nat.{ℕ}
 use Rattle.definition.specs.Texts.{txt}
 use Rattle.definition.specs.Words.{part}
 use Rattle.definition.specs.Numbers.{decimal, num, slot, label, outward}
 use Rattle.definition.specs.Registers.{regName}
+use Rattle.definition.specs.Tokens.{Token}
 use Rattle.definition.specs.Render.{pointer}
 use Rattle.text.specs.Supplied.{nameText, globalText}
 use Rattle.pieces.specs.declared.piece.Made.{Made}
@@ -29,3 +31,7 @@ spelled f (Part x) = part f (x .at) (x .n)
 spelled f (Name x) = nameText f (x .t) (x .i)
 spelled f (Global x) = globalText f (x .t) (x .c) (x .size)
 spelled f (Flags x) = txt "__flags_" ++ part f (x .at) (x .n)
+
+-- the one piece p, or none
+unfoldable pub given : Bool → Token → List Token
+given there p = cond there (p ∷ []) []

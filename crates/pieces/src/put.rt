@@ -11,8 +11,8 @@ ghost use Rattle.definition.specs.Numbers.{decimal, num as numOf, slot as slotO
 ghost use Rattle.definition.specs.Registers.{regName};
 ghost use Rattle.definition.specs.Render.{pointer as pointerOf};
 ghost use Rattle.definition.specs.Tokens.{tok};
-ghost use Rattle.room.specs.Room.{roomOf, emit};
-ghost use Rattle.pieces.specs.Spelled.{made};
+ghost use Rattle.room.specs.Room.{roomOf, emit, emitAll};
+ghost use Rattle.pieces.specs.Spelled.{made, given};
 
 // A piece of any kind.
 pub fn put(tokens: &mut [u64], text: &mut [u8], out: Out, kind: u32, bytes: &[u8]) -> Out
@@ -20,6 +20,24 @@ pub fn put(tokens: &mut [u64], text: &mut [u8], out: Out, kind: u32, bytes: &[u8
         ≡ emit (roomOf (now (tokens .entry)) (now (text .entry)) out) (tok kind (now (bytes .entry))) ⌝ }
 {
     put_piece(tokens, text, out, kind, bytes, Piece::Whole)
+}
+
+// A piece that is there or not.
+pub fn put_if(
+    tokens: &mut [u64],
+    text: &mut [u8],
+    out: Out,
+    kind: u32,
+    bytes: &[u8],
+    there: bool,
+) -> Out
+    ensures { λ r. ⌜ roomOf (now (tokens .exit)) (now (text .exit)) r
+        ≡ emitAll (roomOf (now (tokens .entry)) (now (text .entry)) out) (given there (tok kind (now (bytes .entry)))) ⌝ }
+{
+    if there {
+        return put(tokens, text, out, kind, bytes);
+    }
+    out
 }
 
 // A text that is made of a number.

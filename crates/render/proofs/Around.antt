@@ -1,6 +1,6 @@
 -- What is written around an expression's children is the expression, by its form; where the room is full nothing more is seen.
 use mathlib.Core.Path.{_≡_, sym, ap, _∙_}
-use mathlib.Core.Bool.{Bool, true, false}
+use mathlib.Core.Bool.{Bool, true, false, not}
 use mathlib.Core.List.{List, [], _∷_, _++_, append-nil, append-assoc}
 use Prim.Native.Nat.{ℕ, _+_, _≤_, _<_}
 use native.Mathlib.Omega.{arith}
@@ -25,12 +25,13 @@ use Rattle.ssa.specs.declared.node.Load.{Load as LoadS}
 use Rattle.room.specs.declared.out.Out.{Out}
 use Rattle.room.specs.Room.{Room, roomOf, isFull, emit, emitAll, seen}
 use Rattle.room.proofs.Laws.{next, more, full-stays, one}
+use Rattle.pieces.specs.Spelled.{given}
 use Rattle.render.specs.declared.form.Leaf.{Leaf as LeafS}
 use Rattle.render.specs.declared.form.Form.{Form}
 use Rattle.render.specs.declared.form.Form.the-variants.{Leaf, Use, Bin, Un, Through}
 use Rattle.render.specs.Gens.{rendered, used}
 use Rattle.render.specs.Told.{NamedAt}
-use Rattle.render.specs.Forms.{renderedBelow, castTokens, paren, leafTokens, formTokens, formOf}
+use Rattle.render.specs.Forms.{renderedBelow, castTokens, leafTokens, formTokens, formOf}
 use Rattle.render.proofs.Formed.{below-past, below-in, below-all, form-is, use-form}
 use Rattle.render.proofs.Valued.{use-value, use-named}
 
@@ -39,23 +40,23 @@ unfolding isFull
 stays k b o ps e = full-stays (roomOf k b o) ps e
 
 -- ---- the form's own pieces and its children's
-parted : (top : Bool) (a b : List Token) (o : Token) → paren top (txt "(") ++ (a ++ ((o ∷ []) ++ (b ++ paren top (txt ")")))) ≡ nested top (a ++ (o ∷ b))
-unfolding paren nested
+parted : (top : Bool) (a b : List Token) (o : Token) → given (not top) (punct (txt "(")) ++ (a ++ ((o ∷ []) ++ (b ++ given (not top) (punct (txt ")"))))) ≡ nested top (a ++ (o ∷ b))
+unfolding given nested
 parted true a b o = ap (λ (l : List Token). a ++ (o ∷ l)) (append-nil b)
-parted false a b o = ap (λ (l : List Token). punct (txt "(") ∷ l) (sym (append-assoc a (o ∷ b) (paren false (txt ")"))))
+parted false a b o = ap (λ (l : List Token). punct (txt "(") ∷ l) (sym (append-assoc a (o ∷ b) (punct (txt ")") ∷ [])))
 
 module _ (f : List ℕ) (t pos n : ℕ) where
   -- the child x is written from one room to the next
   abbrev Child : Bool → ℕ → Room → Room → Type 0
   Child top x r₀ r₁ = (E : Edition) → text E ≡ t → seen r₁ ≡ seen (emitAll r₀ (renderedBelow E f pos n top x))
 
-  pub binary-is : (r₅ r₄ r₃ r₂ r₁ r₀ : Room) (top : Bool) (s : BinS) → seen r₁ ≡ seen (emitAll r₀ (paren top (txt "("))) → Child false (s .left) r₁ r₂
+  pub binary-is : (r₅ r₄ r₃ r₂ r₁ r₀ : Room) (top : Bool) (s : BinS) → r₁ ≡ emitAll r₀ (given (not top) (punct (txt "("))) → Child false (s .left) r₁ r₂
       → ((E : Edition) → text E ≡ t → seen r₃ ≡ seen (emitAll r₂ (operator (textAt E f (s .op .start) (s .op .len)) ∷ [])))
-      → Child false (s .right) r₃ r₄ → seen r₅ ≡ seen (emitAll r₄ (paren top (txt ")")))
+      → Child false (s .right) r₃ r₄ → r₅ ≡ emitAll r₄ (given (not top) (punct (txt ")")))
       → (E : Edition) → text E ≡ t → seen r₅ ≡ seen (emitAll r₀ (formTokens E f pos n top (Bin s)))
   unfolding formTokens
   binary-is r₅ r₄ r₃ r₂ r₁ r₀ top s a b o d e E z =
-      more r₅ r₁ r₀ _ _ a (more r₅ r₂ r₁ _ _ (b E z) (more r₅ r₃ r₂ _ _ (o E z) (more r₅ r₄ r₃ _ _ (d E z) e)))
+      more r₅ r₁ r₀ _ _ (ap seen a) (more r₅ r₂ r₁ _ _ (b E z) (more r₅ r₃ r₂ _ _ (o E z) (more r₅ r₄ r₃ _ _ (d E z) (ap seen e))))
       ∙ ap (λ (ts : List Token). seen (emitAll r₀ ts)) (parted top (renderedBelow E f pos n false (s .left)) (renderedBelow E f pos n false (s .right)) (operator (textAt E f (s .op .start) (s .op .len))))
 
   pub unary-is : (r₂ r₁ r₀ : Room) (top : Bool) (s : UnS) → r₁ ≡ emit r₀ (tok 6 (part f (offset f t + s .op .start) (s .op .len))) → Child false (s .child) r₁ r₂
@@ -64,10 +65,10 @@ module _ (f : List ℕ) (t pos n : ℕ) where
   unary-is r₂ r₁ r₀ top s a b E z = rw z (next r₂ r₀ _ _ a (b E z))
 
   pub through-is : (r₃ r₂ r₁ r₀ : Room) (top : Bool) (s : LoadS) → seen r₁ ≡ seen (emitAll r₀ (castTokens (s .size))) → Child true (s .child) r₁ r₂
-      → seen r₃ ≡ seen (emitAll r₂ (paren false (txt ")")))
+      → r₃ ≡ emit r₂ (punct (txt ")"))
       → (E : Edition) → text E ≡ t → seen r₃ ≡ seen (emitAll r₀ (formTokens E f pos n top (Through s)))
-  unfolding formTokens castTokens paren through
-  through-is r₃ r₂ r₁ r₀ top s a b d E z = more r₃ r₁ r₀ _ _ a (more r₃ r₂ r₁ _ _ (b E z) d)
+  unfolding formTokens castTokens through
+  through-is r₃ r₂ r₁ r₀ top s a b d E z = more r₃ r₁ r₀ _ _ a (more r₃ r₂ r₁ _ _ (b E z) (one r₃ r₂ _ d))
 
 -- ---- an expression, by its form x
 pub below-nothing : (f : List ℕ) (t pos b n : ℕ) (top : Bool) (r₁ r₀ : Room) → b ≤ n → r₁ ≡ emit r₀ (tok 0 [])

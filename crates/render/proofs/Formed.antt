@@ -36,7 +36,7 @@ use Rattle.render.specs.declared.form.Leaf.the-variants.{Number, Global,
 use Rattle.render.specs.declared.form.Form.{Form}
 use Rattle.render.specs.declared.form.Form.the-variants.{Leaf, Use, Bin, Un, Through}
 use Rattle.render.specs.Gens.{genAt, rendered, used}
-use Rattle.render.specs.Forms.{renderedBelow, offAt, addressTokens, leafTokens, formTokens, binForm, slotForm, loadForm, nodeForm, formOf}
+use Rattle.render.specs.Forms.{renderedBelow, offAt, addressTokens, leafTokens, formTokens, offsetForm, binForm, slotForm, loadForm, nodeForm, formOf}
 use Rattle.render.proofs.Opening.{gen-supplied, gen-offsets}
 
 -- ---- only a Use's record is a Use
@@ -72,7 +72,7 @@ useForm (Through s) = 0
 
 module _ (E : Edition) (f : List ℕ) (n r : ℕ) where
   use-node : (x : Node) → nodeRecord f n ≡ x → useForm (nodeForm E f n x) ≡ suc r → (exprWord f n 0 ≡ 2) × (r ≡ exprWord f n 1)
-  unfolding nodeForm useForm binForm loadForm slotForm
+  unfolding nodeForm useForm offsetForm loadForm
   use-node (Const c) e q = absurd (omega arith)
   use-node (UseN v) e q = let u = use-record f n v e in (u .0, omega (arith, ap (λ (w : ValueS). w .reg) (u .1)))
   use-node (BinN s) e q = by-cond (λ x. useForm x ≡ suc r → (exprWord f n 0 ≡ 2) × (r ≡ exprWord f n 1)) (eqb (offAt E f n) 0) (λ b z. absurd (omega arith)) (λ b z. absurd (omega arith)) q
@@ -141,7 +141,7 @@ module _ (E : Edition) (f : List ℕ) where
       off-child x l = ap₂ stackOff (gen-offsets E f pos) (tree-child n x (omega arith) ∙ rw (lt-ltb x n l))
 
       form-bin : (top : Bool) (s : BinS) → nodeRecord f n ≡ BinN s → expr G top (viewNode E f (trees E f n) (BinN s)) ≡ formTokens E f pos n top (binForm (offAt E f n) s)
-      unfolding expr viewNode addressOr binForm formTokens leafTokens addressTokens offAt
+      unfolding expr viewNode addressOr offsetForm formTokens leafTokens addressTokens offAt
       form-bin top s e =
           let o : stackOff (G .offsets) (DBin (textAt E f (s .op .start) (s .op .len)) (child (s .left)) (child (s .right))) ≡ stackOff (offsets (read E f)) (treeAt (allTrees E f) n) =
           ap₂ stackOff (gen-offsets E f pos) (sym (tree-node n here ∙ ap (viewNode E f (trees E f n)) e)) in
@@ -164,7 +164,7 @@ module _ (E : Edition) (f : List ℕ) where
           by-cond (λ y. globalOf (read E f .names) m y ≡ none) (eqb g 5) (λ q. refl) (λ q. refl))))))
 
       form-load : (top : Bool) (s : LoadS) → expr G top (DLoad (s .size) (child (s .child))) ≡ formTokens E f pos n top (loadForm E f n s)
-      unfolding expr globalOr globalOf slotOr stackOff loadForm slotForm formTokens leafTokens
+      unfolding expr globalOr globalOf slotOr stackOff loadForm offsetForm formTokens leafTokens
       form-load top s =
           by-test (ltb (s .child) n) (λ e. low (ltb-true (s .child) n e)) (λ e. high (ltb-false (s .child) n e))
         where
@@ -197,13 +197,6 @@ module _ (E : Edition) (f : List ℕ) where
       form-is top = ap (expr G top) (tree-node n here) ∙ form-node top (nodeRecord f n) refl
 
 -- ---- the returns of the functions that find it
--- by whether an offset is known
-pub at-zero : {A : Type 0} (o : ℕ) (x y : A) → o ≡ 0 → x ≡ cond (eqb o 0) x y
-at-zero o x y e = rw e
-
-pub past-zero : {A : Type 0} (o : ℕ) (x y : A) → (o ≡ 0 → ⊥) → y ≡ cond (eqb o 0) x y
-past-zero o x y n = rw (ne-eqb o 0 n)
-
 module _ (f : List ℕ) (n g : ℕ) (tag : g ≡ exprWord f n 0) where
   pub global-other : (g ≡ 1 → ⊥) → false ≡ (eqb (exprWord f n 0) tConst && isGlobal (exprLong f n 1))
   global-other h = rw (← tag, ne-eqb g 1 h)

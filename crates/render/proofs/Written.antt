@@ -1,6 +1,5 @@
 -- What each writer's calls put one behind the other is the list of pieces that its contract says, by `next`, `more` and `done`.
 use mathlib.Core.Path.{_≡_, refl, sym, _∙_}
-use mathlib.Core.Bool.{Bool, true, false}
 use mathlib.Core.List.{List, [], _∷_, _++_}
 use Prim.Native.Nat.{ℕ, _+_}
 use Rattle.definition.specs.Edition.{Edition}
@@ -13,25 +12,16 @@ use Rattle.definition.specs.Render.{pointer, operator}
 use Rattle.text.specs.Supplied.{globalText}
 use Rattle.ssa.specs.declared.parts.Text.{Text}
 use Rattle.room.specs.Room.{Room, emit, emitAll, seen}
-use Rattle.room.proofs.Laws.{next, done, joined, one}
+use Rattle.room.proofs.Laws.{next, joined, one}
 use Rattle.render.specs.declared.form.Leaf.{Leaf}
 use Rattle.render.specs.declared.form.Leaf.the-variants.{Number, Address, Global, Slot, Opaque}
 use Rattle.render.specs.declared.form.Global.{Global as GlobalS}
-use Rattle.render.specs.Forms.{addressTokens, castTokens, paren, leafTokens}
+use Rattle.render.specs.Forms.{addressTokens, castTokens, leafTokens}
 
 two : (r₂ r₁ r₀ : Room) (p q : Token) → r₁ ≡ emit r₀ p → r₂ ≡ emit r₁ q → seen r₂ ≡ seen (emitAll r₀ (p ∷ q ∷ []))
 two r₂ r₁ r₀ p q d e = next r₂ r₀ p (q ∷ []) d (one r₂ r₁ q e)
 
--- ---- parentheses
-pub paren-top : (r : Room) (top : Bool) (s : List ℕ) → top ≡ true → seen r ≡ seen (emitAll r (paren top s))
-unfolding paren
-paren-top r top s e = rw e (done r)
-
 module _ (r₁ r₀ : Room) where
-  pub paren-in : (top : Bool) (s : List ℕ) → top ≡ false → r₁ ≡ emit r₀ (tok 6 s) → seen r₁ ≡ seen (emitAll r₀ (paren top s))
-  unfolding paren
-  paren-in top s e p = rw e (one r₁ r₀ _ p)
-
   -- a text of the file
   pub text-put : (f : List ℕ) (k t o : ℕ) (x : Text) → o ≡ offset f t → r₁ ≡ emit r₀ (tok k (part f (o + x .start) (x .len)))
       → r₁ ≡ emit r₀ (tok k (part f (offset f t + x .start) (x .len)))

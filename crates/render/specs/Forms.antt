@@ -45,11 +45,6 @@ addressTokens s = punct (txt "&") ∷ register (slot s) ∷ []
 unfoldable pub castTokens : ℕ → List Token
 castTokens n = pointer n ∷ punct (txt "(") ∷ []
 
--- a parenthesis of `nested`
-unfoldable pub paren : Bool → List ℕ → List Token
-paren true s = []
-paren false s = punct s ∷ []
-
 unfoldable pub leafTokens : Edition → List ℕ → LeafS → List Token
 leafTokens E f (Number c) = numeral (num c) ∷ []
 leafTokens E f (Address s) = addressTokens s
@@ -66,12 +61,16 @@ formTokens E f pos n top (Bin s) =
 formTokens E f pos n top (Un s) = punct (textAt E f (s .op .start) (s .op .len)) ∷ renderedBelow E f pos n false (s .child)
 formTokens E f pos n top (Through s) = through (s .size) (renderedBelow E f pos n true (s .child))
 
--- a stack address is a leaf; so is a load of a global or of a slot
-unfoldable pub binForm : ℕ → BinS → Form
-binForm o s = cond (eqb o 0) (Bin s) (Leaf (Address o))
+-- the leaf l where offset o is known
+unfoldable pub offsetForm : ℕ → Form → LeafS → Form
+offsetForm o x l = cond (eqb o 0) x (Leaf l)
 
-unfoldable pub slotForm : ℕ → LoadS → Form
-slotForm o s = cond (eqb o 0) (Through s) (Leaf (Slot o))
+-- a stack address is a leaf; so is a load of a global or of a slot
+abbrev pub binForm : ℕ → BinS → Form
+binForm o s = offsetForm o (Bin s) (Address o)
+
+abbrev pub slotForm : ℕ → LoadS → Form
+slotForm o s = offsetForm o (Through s) (Slot o)
 
 unfoldable pub loadForm : Edition → List ℕ → ℕ → LoadS → Form
 loadForm E f n s =

@@ -8,10 +8,11 @@ use crate::leaves::put_address;
 use crate::leaves::put_cast;
 use crate::leaves::put_leaf;
 use crate::leaves::put_nothing;
-use crate::leaves::put_paren;
 use crate::leaves::put_text;
 use crate::operators::put_operator;
 use meaning::meaning::bits_of;
+use pieces::put::put;
+use pieces::put::put_if;
 use places::Places;
 use records::contents::EXPRESSIONS;
 use records::contents::size_of;
@@ -173,11 +174,12 @@ fn binary(
         n: s.right,
         top: false,
     };
-    let out = put_paren(tokens, text, out, at.top, b"(");
+    let inner = !at.top;
+    let out = put_if(tokens, text, out, PUNCT, b"(", inner);
     let out = below(tokens, text, out, f, numbers, offs, placed, names, left);
     let out = put_operator(tokens, text, out, f, at.t, s.op);
     let out = below(tokens, text, out, f, numbers, offs, placed, names, right);
-    put_paren(tokens, text, out, at.top, b")")
+    put_if(tokens, text, out, PUNCT, b")", inner)
 }
 
 // The operator, and the operand behind it.
@@ -240,7 +242,7 @@ fn through(
     };
     let out = put_cast(tokens, text, out, s.size);
     let out = below(tokens, text, out, f, numbers, offs, placed, names, child);
-    put_paren(tokens, text, out, false, b")")
+    put(tokens, text, out, PUNCT, b")")
 }
 
 // The value of register `reg` that stands at `place` of the file.

@@ -23,7 +23,7 @@ ghost use Rattle.definition.specs.Offsets.{look, offsets};
 ghost use Rattle.text.specs.Supplied.{isGlobal};
 ghost use Rattle.values.specs.Tables.{table};
 ghost use Rattle.sums.specs.Ground.{Ground};
-ghost use Rattle.render.specs.Forms.{binForm, slotForm, loadForm, formOf};
+ghost use Rattle.render.specs.Forms.{offsetForm, loadForm, formOf};
 
 // A global at an address, of which `size` bytes are loaded.
 pub struct Global {
@@ -51,22 +51,14 @@ pub enum Form {
     Through(Load),
 }
 
-fn bin_form(o: u64, s: Bin) -> Form
-    ensures { λ r. ⌜ r ≡ binForm o s ⌝ }
+// The leaf where an offset is known.
+fn by_offset(o: u64, other: Form, leaf: Leaf) -> Form
+    ensures { λ r. ⌜ r ≡ offsetForm o other leaf ⌝ }
 {
     if o == 0 {
-        return Form::Bin(s);
+        return other;
     }
-    Form::Leaf(Leaf::Address(o))
-}
-
-fn slot_form(o: u64, s: Load) -> Form
-    ensures { λ r. ⌜ r ≡ slotForm o s ⌝ }
-{
-    if o == 0 {
-        return Form::Through(s);
-    }
-    Form::Leaf(Leaf::Slot(o))
+    Form::Leaf(leaf)
 }
 
 // Whether expression n is a constant that names a global.
@@ -102,7 +94,8 @@ fn load_form(
             size: s.size,
         }));
     }
-    slot_form(stack_off(offs, f, t, numbers, places, a), s)
+    let o = stack_off(offs, f, t, numbers, places, a);
+    by_offset(o, Form::Through(s), Leaf::Slot(o))
 }
 
 // The form of expression n.
@@ -114,7 +107,10 @@ pub fn form_of(offs: &[u64], f: &[u8], t: u32, numbers: &[u32], places: Places, 
     match node_at(f, n) {
         Node::Const(c) => Form::Leaf(Leaf::Number(c)),
         Node::Use(v) => Form::Use(v.reg),
-        Node::Bin(s) => bin_form(stack_off(offs, f, t, numbers, places, n), s),
+        Node::Bin(s) => {
+            let o = stack_off(offs, f, t, numbers, places, n);
+            by_offset(o, Form::Bin(s), Leaf::Address(o))
+        }
         Node::Un(s) => Form::Un(s),
         Node::Load(s) => load_form(offs, f, t, numbers, places, n, s),
         Node::Opaque(x) => Form::Leaf(Leaf::Opaque(x)),

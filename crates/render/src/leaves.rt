@@ -17,7 +17,7 @@ ghost use Rattle.definition.specs.Words.{part};
 ghost use Rattle.definition.specs.Contents.{offset, text as textSection};
 ghost use Rattle.definition.specs.Tokens.{tok};
 ghost use Rattle.room.specs.Room.{roomOf, emit, emitAll, seen};
-ghost use Rattle.render.specs.Forms.{addressTokens, castTokens, paren, leafTokens};
+ghost use Rattle.render.specs.Forms.{addressTokens, castTokens, leafTokens};
 
 const TEXT: u32 = 0;
 
@@ -68,17 +68,6 @@ pub fn put_nothing(tokens: &mut [u64], text: &mut [u8], out: Out) -> Out
         ≡ emit (roomOf (now (tokens .entry)) (now (text .entry)) out) (tok 0 []) ⌝ }
 {
     put(tokens, text, out, TEXT, b"")
-}
-
-// A parenthesis, unless at the top.
-pub fn put_paren(tokens: &mut [u64], text: &mut [u8], out: Out, top: bool, bytes: &[u8]) -> Out
-    ensures { λ r. ⌜ seen (roomOf (now (tokens .exit)) (now (text .exit)) r)
-        ≡ seen (emitAll (roomOf (now (tokens .entry)) (now (text .entry)) out) (paren top (now (bytes .entry)))) ⌝ }
-{
-    if top {
-        return out;
-    }
-    put(tokens, text, out, PUNCT, bytes)
 }
 
 // What stands before the address of a load or a store of n bytes: `*(uintN_t *)` and `(`.

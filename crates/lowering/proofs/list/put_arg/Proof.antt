@@ -7,8 +7,11 @@ use borrow.Author.Needs.{needs}
 use Rattle.lowering.proofs.list.put_arg.Statement.{statement}
 use Rattle.lowering.proofs.list.put_arg.Tie as tie
 
-put-comma-requires : tie.Need-put-comma-requires
-put-comma-requires c κs = search needs
+slice-aggregate-put-if : tie.Need-slice-aggregate-put-if
+slice-aggregate-put-if c = search needs
+
+put-if-requires : tie.Need-put-if-requires
+put-if-requires c κs = search needs
 
 put-expr-requires : tie.Need-put-expr-requires
 put-expr-requires c κs = search needs
@@ -21,9 +24,9 @@ same-length-2 c = search needs
 
 returns : tie.Need-returns
 unfolding argOf
-returns c = λ E s. more _ _ _ _ _ (ap seen (c .before .before .before .before .before .before .before .before .before .before .before .put-comma .ensures)) (c .before .before .before .before .put-expr .ensures E s)
+returns c = λ E s. more _ _ _ _ _ (ap seen (c .before .before .before .before .before .before .before .before .before .before .before .put-if .ensures)) (c .before .before .before .before .put-expr .ensures E s)
 
 pub put-arg-spec : {M : Type 1} → statement M
 put-arg-spec =
     tie.close
-    (tie.spec put-comma-requires put-expr-requires same-length same-length-2 returns)
+    (tie.spec slice-aggregate-put-if put-if-requires put-expr-requires same-length same-length-2 returns)

@@ -24,6 +24,8 @@ use Rattle.render.proofs.expr.value.Reads as value
 use Rattle.render.proofs.expr.value.Kinds as value-kinds
 use Rattle.render.proofs.expr.+below+binary+through+unary+value.Lts-value as value-lts
 use Rattle.meaning.proofs.meaning.bits_of.Reads as bits-of-reads
+use Rattle.pieces.proofs.put.put.Reads as put-reads
+use Rattle.pieces.proofs.put.put_if.Reads as put-if-reads
 use Rattle.records.proofs.contents.size_of.Reads as size-of-reads
 use Rattle.records.proofs.owners.stmt_field.Reads as stmt-field-reads
 use Rattle.render.proofs.code.put_code.Reads as put-code-reads
@@ -33,7 +35,6 @@ use Rattle.render.proofs.leaves.put_address.Reads as put-address-reads
 use Rattle.render.proofs.leaves.put_cast.Reads as put-cast-reads
 use Rattle.render.proofs.leaves.put_leaf.Reads as put-leaf-reads
 use Rattle.render.proofs.leaves.put_nothing.Reads as put-nothing-reads
-use Rattle.render.proofs.leaves.put_paren.Reads as put-paren-reads
 use Rattle.render.proofs.leaves.put_text.Reads as put-text-reads
 use Rattle.render.proofs.operators.put_operator.Reads as put-operator-reads
 use Rattle.slices.proofs.at_u32.Reads as at-u32-reads
@@ -680,39 +681,39 @@ below-returns-7 : (t : ℕ) → below-lts.Need-returns-7 (
 ) (below-at t) below.Post
 below-returns-7 t c = below-form _ _ _ _ _ _ (c .before .before .before .before .before .before .before .before .before .before .before .before .before .before .before .before .before .before .before .before .before .before .pre .1 .1) (c .before .before .before .before .before .before .before .before .before .before .before .before .if2 .left) _ (c .before .before .before .before .before .before .before .before .before .before .form-of .ensures) _ _ _ (c .before .before .before .before .before .before .before .before .s3 .given .1) (c .before .before .before .before .through .ensures)
 
-binary-slice-aggregate-put-paren : (t : ℕ) → binary-lts.Need-slice-aggregate-put-paren (
-  put-paren-reads.Asked,
-  put-paren-reads.Learnt,
+binary-slice-aggregate-put-if : (t : ℕ) → binary-lts.Need-slice-aggregate-put-if (
+  put-if-reads.Asked,
+  put-if-reads.Learnt,
   below-below t,
   below.Post,
   put-operator-reads.Asked,
   put-operator-reads.Learnt,
 ) (binary-at t) binary.Post
-binary-slice-aggregate-put-paren t c = search needs
+binary-slice-aggregate-put-if t c = search needs
 
-binary-put-paren-requires : (t : ℕ) → binary-lts.Need-put-paren-requires (
-  put-paren-reads.Asked,
-  put-paren-reads.Learnt,
+binary-put-if-requires : (t : ℕ) → binary-lts.Need-put-if-requires (
+  put-if-reads.Asked,
+  put-if-reads.Learnt,
   below-below t,
   below.Post,
   put-operator-reads.Asked,
   put-operator-reads.Learnt,
 ) (binary-at t) binary.Post
-binary-put-paren-requires t c κs = search needs
+binary-put-if-requires t c κs = search needs
 
 binary-below-requires : (t : ℕ) → binary-lts.Need-below-requires (
-  put-paren-reads.Asked,
-  put-paren-reads.Learnt,
+  put-if-reads.Asked,
+  put-if-reads.Learnt,
   below-below t,
   below.Post,
   put-operator-reads.Asked,
   put-operator-reads.Learnt,
 ) (binary-at t) binary.Post
-binary-below-requires t c κs = (falls-child _ _ _ (c .before .before .before .before .before .before .before .before .before .before .before .before .before .before .before .before .before .before .pre .0), c .before .before .before .before .before .before .before .before .before .before .before .before .before .before .before .before .before .before .pre .1)
+binary-below-requires t c κs = (falls-child _ _ _ (c .before .before .before .before .before .before .before .before .before .before .before .before .before .before .before .before .before .before .before .pre .0), c .before .before .before .before .before .before .before .before .before .before .before .before .before .before .before .before .before .before .before .pre .1)
 
 binary-put-operator-requires : (t : ℕ) → binary-lts.Need-put-operator-requires (
-  put-paren-reads.Asked,
-  put-paren-reads.Learnt,
+  put-if-reads.Asked,
+  put-if-reads.Learnt,
   below-below t,
   below.Post,
   put-operator-reads.Asked,
@@ -721,72 +722,72 @@ binary-put-operator-requires : (t : ℕ) → binary-lts.Need-put-operator-requir
 binary-put-operator-requires t c κs = search needs
 
 binary-below-requires-2 : (t : ℕ) → binary-lts.Need-below-requires-2 (
-  put-paren-reads.Asked,
-  put-paren-reads.Learnt,
+  put-if-reads.Asked,
+  put-if-reads.Learnt,
   below-below t,
   below.Post,
   put-operator-reads.Asked,
   put-operator-reads.Learnt,
 ) (binary-at t) binary.Post
-binary-below-requires-2 t c κs = (falls-child _ _ _ (c .before .before .before .before .before .before .before .before .before .before .before .before .before .before .before .before .before .before .before .before .before .before .before .before .before .before .before .before .before .before .before .before .pre .0), c .before .before .before .before .before .before .before .before .before .before .before .before .before .before .before .before .before .before .before .before .before .before .before .before .before .before .before .before .before .before .before .before .pre .1)
+binary-below-requires-2 t c κs = (falls-child _ _ _ (c .before .before .before .before .before .before .before .before .before .before .before .before .before .before .before .before .before .before .before .before .before .before .before .before .before .before .before .before .before .before .before .before .before .pre .0), c .before .before .before .before .before .before .before .before .before .before .before .before .before .before .before .before .before .before .before .before .before .before .before .before .before .before .before .before .before .before .before .before .before .pre .1)
 
-binary-slice-aggregate-put-paren-2 : (t : ℕ) → binary-lts.Need-slice-aggregate-put-paren-2 (
-  put-paren-reads.Asked,
-  put-paren-reads.Learnt,
+binary-slice-aggregate-put-if-2 : (t : ℕ) → binary-lts.Need-slice-aggregate-put-if-2 (
+  put-if-reads.Asked,
+  put-if-reads.Learnt,
   below-below t,
   below.Post,
   put-operator-reads.Asked,
   put-operator-reads.Learnt,
 ) (binary-at t) binary.Post
-binary-slice-aggregate-put-paren-2 t c = search needs
+binary-slice-aggregate-put-if-2 t c = search needs
 
-binary-put-paren-requires-2 : (t : ℕ) → binary-lts.Need-put-paren-requires-2 (
-  put-paren-reads.Asked,
-  put-paren-reads.Learnt,
+binary-put-if-requires-2 : (t : ℕ) → binary-lts.Need-put-if-requires-2 (
+  put-if-reads.Asked,
+  put-if-reads.Learnt,
   below-below t,
   below.Post,
   put-operator-reads.Asked,
   put-operator-reads.Learnt,
 ) (binary-at t) binary.Post
-binary-put-paren-requires-2 t c κs = search needs
+binary-put-if-requires-2 t c κs = search needs
 
 binary-same-length : (t : ℕ) → binary-lts.Need-same-length (
-  put-paren-reads.Asked,
-  put-paren-reads.Learnt,
+  put-if-reads.Asked,
+  put-if-reads.Learnt,
   below-below t,
   below.Post,
   put-operator-reads.Asked,
   put-operator-reads.Learnt,
 ) (binary-at t) binary.Post
-binary-same-length t c = c .before .before .before .before .put-paren2 .kept .0 ∙ c .before .before .before .before .before .before .before .before .before .before .before .before .below2 .kept .0 ∙ c .before .before .before .before .before .before .before .before .before .before .before .before .before .before .before .before .before .before .before .put-operator .kept .0 ∙ c .before .before .before .before .before .before .before .before .before .before .before .before .before .before .before .before .before .before .before .before .before .before .before .before .before .before .below .kept .0 ∙ c .before .before .before .before .before .before .before .before .before .before .before .before .before .before .before .before .before .before .before .before .before .before .before .before .before .before .before .before .before .before .before .before .before .put-paren .kept .0
+binary-same-length t c = c .before .before .before .before .put-if2 .kept .0 ∙ c .before .before .before .before .before .before .before .before .before .before .before .before .below2 .kept .0 ∙ c .before .before .before .before .before .before .before .before .before .before .before .before .before .before .before .before .before .before .before .put-operator .kept .0 ∙ c .before .before .before .before .before .before .before .before .before .before .before .before .before .before .before .before .before .before .before .before .before .before .before .before .before .before .below .kept .0 ∙ c .before .before .before .before .before .before .before .before .before .before .before .before .before .before .before .before .before .before .before .before .before .before .before .before .before .before .before .before .before .before .before .before .before .put-if .kept .0
 
 binary-same-length-2 : (t : ℕ) → binary-lts.Need-same-length-2 (
-  put-paren-reads.Asked,
-  put-paren-reads.Learnt,
+  put-if-reads.Asked,
+  put-if-reads.Learnt,
   below-below t,
   below.Post,
   put-operator-reads.Asked,
   put-operator-reads.Learnt,
 ) (binary-at t) binary.Post
-binary-same-length-2 t c = c .before .before .before .before .put-paren2 .kept .1 .0 ∙ c .before .before .before .before .before .before .before .before .before .before .before .before .below2 .kept .1 .0 ∙ c .before .before .before .before .before .before .before .before .before .before .before .before .before .before .before .before .before .before .before .put-operator .kept .1 .0 ∙ c .before .before .before .before .before .before .before .before .before .before .before .before .before .before .before .before .before .before .before .before .before .before .before .before .before .before .below .kept .1 .0 ∙ c .before .before .before .before .before .before .before .before .before .before .before .before .before .before .before .before .before .before .before .before .before .before .before .before .before .before .before .before .before .before .before .before .before .put-paren .kept .1 .0
+binary-same-length-2 t c = c .before .before .before .before .put-if2 .kept .1 .0 ∙ c .before .before .before .before .before .before .before .before .before .before .before .before .below2 .kept .1 .0 ∙ c .before .before .before .before .before .before .before .before .before .before .before .before .before .before .before .before .before .before .before .put-operator .kept .1 .0 ∙ c .before .before .before .before .before .before .before .before .before .before .before .before .before .before .before .before .before .before .before .before .before .before .before .before .before .before .below .kept .1 .0 ∙ c .before .before .before .before .before .before .before .before .before .before .before .before .before .before .before .before .before .before .before .before .before .before .before .before .before .before .before .before .before .before .before .before .before .put-if .kept .1 .0
 
 binary-returns : (t : ℕ) → binary-lts.Need-returns (
-  put-paren-reads.Asked,
-  put-paren-reads.Learnt,
+  put-if-reads.Asked,
+  put-if-reads.Learnt,
   below-below t,
   below.Post,
   put-operator-reads.Asked,
   put-operator-reads.Learnt,
 ) (binary-at t) binary.Post
-binary-returns t c = binary-is _ _ _ _ _ _ _ _ _ _ _ _ (c .before .before .before .before .before .before .before .before .before .before .before .before .before .before .before .before .before .before .before .before .before .before .before .before .before .before .before .before .before .before .before .before .before .put-paren .ensures) (c .before .before .before .before .before .before .before .before .before .before .before .before .before .before .before .before .before .before .before .before .before .before .before .before .before .before .below .ensures) (c .before .before .before .before .before .before .before .before .before .before .before .before .before .before .before .before .before .before .before .put-operator .ensures) (c .before .before .before .before .before .before .before .before .before .before .before .before .below2 .ensures) (c .before .before .before .before .put-paren2 .ensures)
+binary-returns t c = binary-is _ _ _ _ _ _ _ _ _ _ _ _ (c .before .before .before .before .before .before .before .before .before .before .before .before .before .before .before .before .before .before .before .before .before .before .before .before .before .before .before .before .before .before .before .before .before .put-if .ensures) (c .before .before .before .before .before .before .before .before .before .before .before .before .before .before .before .before .before .before .before .before .before .before .before .before .before .before .below .ensures) (c .before .before .before .before .before .before .before .before .before .before .before .before .before .before .before .before .before .before .before .put-operator .ensures) (c .before .before .before .before .before .before .before .before .before .before .before .before .below2 .ensures) (c .before .before .before .before .put-if2 .ensures)
 
 through-put-cast-requires : (t : ℕ) → through-lts.Need-put-cast-requires (
   put-cast-reads.Asked,
   put-cast-reads.Learnt,
   below-below t,
   below.Post,
-  put-paren-reads.Asked,
-  put-paren-reads.Learnt,
+  put-reads.Asked,
+  put-reads.Learnt,
 ) (through-at t) through.Post
 through-put-cast-requires t c κs = search needs
 
@@ -795,38 +796,38 @@ through-below-requires : (t : ℕ) → through-lts.Need-below-requires (
   put-cast-reads.Learnt,
   below-below t,
   below.Post,
-  put-paren-reads.Asked,
-  put-paren-reads.Learnt,
+  put-reads.Asked,
+  put-reads.Learnt,
 ) (through-at t) through.Post
 through-below-requires t c κs = (falls-child _ _ _ (c .before .before .before .before .before .before .before .before .before .before .before .before .before .before .before .before .before .pre .0), c .before .before .before .before .before .before .before .before .before .before .before .before .before .before .before .before .before .pre .1)
 
-through-slice-aggregate-put-paren : (t : ℕ) → through-lts.Need-slice-aggregate-put-paren (
+through-slice-aggregate-put : (t : ℕ) → through-lts.Need-slice-aggregate-put (
   put-cast-reads.Asked,
   put-cast-reads.Learnt,
   below-below t,
   below.Post,
-  put-paren-reads.Asked,
-  put-paren-reads.Learnt,
+  put-reads.Asked,
+  put-reads.Learnt,
 ) (through-at t) through.Post
-through-slice-aggregate-put-paren t c = search needs
+through-slice-aggregate-put t c = search needs
 
-through-put-paren-requires : (t : ℕ) → through-lts.Need-put-paren-requires (
+through-put-requires : (t : ℕ) → through-lts.Need-put-requires (
   put-cast-reads.Asked,
   put-cast-reads.Learnt,
   below-below t,
   below.Post,
-  put-paren-reads.Asked,
-  put-paren-reads.Learnt,
+  put-reads.Asked,
+  put-reads.Learnt,
 ) (through-at t) through.Post
-through-put-paren-requires t c κs = search needs
+through-put-requires t c κs = search needs
 
 through-same-length : (t : ℕ) → through-lts.Need-same-length (
   put-cast-reads.Asked,
   put-cast-reads.Learnt,
   below-below t,
   below.Post,
-  put-paren-reads.Asked,
-  put-paren-reads.Learnt,
+  put-reads.Asked,
+  put-reads.Learnt,
 ) (through-at t) through.Post
 through-same-length t c = search needs
 
@@ -835,8 +836,8 @@ through-same-length-2 : (t : ℕ) → through-lts.Need-same-length-2 (
   put-cast-reads.Learnt,
   below-below t,
   below.Post,
-  put-paren-reads.Asked,
-  put-paren-reads.Learnt,
+  put-reads.Asked,
+  put-reads.Learnt,
 ) (through-at t) through.Post
 through-same-length-2 t c = search needs
 
@@ -845,10 +846,10 @@ through-returns : (t : ℕ) → through-lts.Need-returns (
   put-cast-reads.Learnt,
   below-below t,
   below.Post,
-  put-paren-reads.Asked,
-  put-paren-reads.Learnt,
+  put-reads.Asked,
+  put-reads.Learnt,
 ) (through-at t) through.Post
-through-returns t c = through-is _ _ _ _ _ _ _ _ _ _ (c .before .before .before .before .before .before .before .before .before .before .before .before .before .before .before .before .before .before .before .put-cast .ensures) (c .before .before .before .before .before .before .before .before .before .before .before .before .below .ensures) (c .before .before .before .before .put-paren .ensures)
+through-returns t c = through-is _ _ _ _ _ _ _ _ _ _ (c .before .before .before .before .before .before .before .before .before .before .before .before .before .before .before .before .before .before .before .put-cast .ensures) (c .before .before .before .before .before .before .before .before .before .before .before .before .below .ensures) (c .before .before .before .before .put .ensures)
 
 unary-put-text-requires : (t : ℕ) → unary-lts.Need-put-text-requires (
   put-text-reads.Asked,
@@ -1450,8 +1451,8 @@ pub +below+binary+through+unary+value-spec : {M : Type 1} → statement M
     (below-same-length-12 t)
     (below-returns-7 t))
     (λ t. binary-lts.spec (
-      put-paren-reads.Asked,
-      put-paren-reads.Learnt,
+      put-if-reads.Asked,
+      put-if-reads.Learnt,
       below-below t,
       below.Post,
       put-operator-reads.Asked,
@@ -1459,13 +1460,13 @@ pub +below+binary+through+unary+value-spec : {M : Type 1} → statement M
     )
     (binary-at t)
     binary.Post
-    (binary-slice-aggregate-put-paren t)
-    (binary-put-paren-requires t)
+    (binary-slice-aggregate-put-if t)
+    (binary-put-if-requires t)
     (binary-below-requires t)
     (binary-put-operator-requires t)
     (binary-below-requires-2 t)
-    (binary-slice-aggregate-put-paren-2 t)
-    (binary-put-paren-requires-2 t)
+    (binary-slice-aggregate-put-if-2 t)
+    (binary-put-if-requires-2 t)
     (binary-same-length t)
     (binary-same-length-2 t)
     (binary-returns t))
@@ -1474,15 +1475,15 @@ pub +below+binary+through+unary+value-spec : {M : Type 1} → statement M
       put-cast-reads.Learnt,
       below-below t,
       below.Post,
-      put-paren-reads.Asked,
-      put-paren-reads.Learnt,
+      put-reads.Asked,
+      put-reads.Learnt,
     )
     (through-at t)
     through.Post
     (through-put-cast-requires t)
     (through-below-requires t)
-    (through-slice-aggregate-put-paren t)
-    (through-put-paren-requires t)
+    (through-slice-aggregate-put t)
+    (through-put-requires t)
     (through-same-length t)
     (through-same-length-2 t)
     (through-returns t))

@@ -19,8 +19,8 @@ enum-known-s c = search needs
 stack-off-requires : tie.Need-stack-off-requires
 stack-off-requires c κs = search needs
 
-bin-form-requires : tie.Need-bin-form-requires
-bin-form-requires c κs = search needs
+by-offset-requires : tie.Need-by-offset-requires
+by-offset-requires c κs = search needs
 
 enum-known-s-2 : tie.Need-enum-known-s-2
 enum-known-s-2 c = search needs
@@ -41,7 +41,7 @@ returns-2 : tie.Need-returns-2
 returns-2 c = form-use _ _ _ _ (c .before .before .before .node-at .ensures) _ (c .before .v .given .1)
 
 returns-3 : tie.Need-returns-3
-returns-3 c = form-two _ _ _ _ (c .before .before .before .before .before .node-at .ensures) _ _ _ _ _ (c .before .before .before .s .given .1) (c .before .stack-off .ensures) (c .before .before .before .before .before .before .before .before .before .pre .1) (c .bin-form .ensures)
+returns-3 c = form-two _ _ _ _ (c .before .before .before .before .before .node-at .ensures) _ _ _ _ _ (c .before .before .before .s .given .1) (c .before .stack-off .ensures) (c .before .before .before .before .before .before .before .before .before .pre .1) (c .by-offset .ensures)
 
 returns-4 : tie.Need-returns-4
 returns-4 c = form-un _ _ _ _ (c .before .before .before .node-at .ensures) _ (c .before .s2 .given .1)
@@ -61,7 +61,7 @@ form-of-spec =
     enum-known-v
     enum-known-s
     stack-off-requires
-    bin-form-requires
+    by-offset-requires
     enum-known-s-2
     enum-known-s-3
     load-form-requires

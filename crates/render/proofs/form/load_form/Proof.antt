@@ -19,11 +19,11 @@ returns-2 c = load-global _ _ _ _ (c .before .before .before .if1 .left) _ (c .b
 stack-off-requires : tie.Need-stack-off-requires
 stack-off-requires c κs = search needs
 
-slot-form-requires : tie.Need-slot-form-requires
-slot-form-requires c κs = search needs
+by-offset-requires : tie.Need-by-offset-requires
+by-offset-requires c κs = search needs
 
 returns-3 : tie.Need-returns-3
-returns-3 c = load-slot _ _ _ _ (c .before .before .before .before .if1 .left) _ (c .before .before .before .names-global .ensures) _ _ _ _ (c .before .before .if2 .left) (c .before .stack-off .ensures) (c .before .before .before .before .before .before .before .before .pre .1) (c .slot-form .ensures)
+returns-3 c = load-slot _ _ _ _ (c .before .before .before .before .if1 .left) _ (c .before .before .before .names-global .ensures) _ _ _ _ (c .before .before .if2 .left) (c .before .stack-off .ensures) (c .before .before .before .before .before .before .before .before .pre .1) (c .by-offset .ensures)
 
 pub load-form-spec : {M : Type 1} → statement M
 load-form-spec =
@@ -34,5 +34,5 @@ load-form-spec =
     expr-long-requires
     returns-2
     stack-off-requires
-    slot-form-requires
+    by-offset-requires
     returns-3)
