@@ -12,7 +12,7 @@ use Rattle.flags.specs.declared.comparison.Side.the-variants.{Left, Right, Diff
 use Rattle.flags.specs.declared.comparison.Shown.{Shown}
 use Rattle.room.specs.Room.{Room, emit, emitAll, seen}
 use Rattle.room.proofs.Laws.{next, more, one}
-use Rattle.pieces.specs.Spelled.{given}
+use Rattle.pieces.specs.Spelled.{pieceIf}
 use Rattle.conditions.specs.Printed.{viewSide, viewSign, viewShown, between}
 
 pub between-put : (r r₄ r₃ r₂ r₁ r₀ : Room) (x y : List Token) (op : List ℕ)
@@ -56,13 +56,13 @@ pub sign-put : (r r₀ : Room) (s k : Sign) → s ≡ k → r ≡ emit r₀ (pun
 sign-put r r₀ s k h e = rw h e
 
 -- ---- the whole
-unsigned-is : (u : Bool) → given u (keyword (txt "(unsigned)")) ≡ unsignedTokens u
-unfolding given unsignedTokens
+unsigned-is : (u : Bool) → pieceIf u (keyword (txt "(unsigned)")) ≡ unsignedTokens u
+unfolding pieceIf unsignedTokens
 unsigned-is true = refl
 unsigned-is false = refl
 
 pub shown-put : (r r₃ r₂ r₁ r₀ : Room) (x y : List Token) (c : Shown)
-    → r₁ ≡ emitAll r₀ (given (c .unsigned) (keyword (txt "(unsigned)"))) → seen r₂ ≡ seen (emitAll r₁ (sideTokens x y (viewSide (c .lhs))))
+    → r₁ ≡ emitAll r₀ (pieceIf (c .unsigned) (keyword (txt "(unsigned)"))) → seen r₂ ≡ seen (emitAll r₁ (sideTokens x y (viewSide (c .lhs))))
     → r₃ ≡ emit r₂ (punct (signText (viewSign (c .sign)))) → seen r ≡ seen (emitAll r₃ (sideTokens x y (viewSide (c .rhs))))
     → seen r ≡ seen (emitAll r₀ (shownTokens x y (viewShown c)))
 unfolding shownTokens viewShown

@@ -21,7 +21,7 @@ use Rattle.records.proofs.Editions.{length-range}
 use Rattle.records.proofs.Ranges.{shift, take-less, take-map}
 use Rattle.room.specs.Room.{Room, emitAll, seen}
 use Rattle.room.proofs.Laws.{more, done, pieces-are}
-use Rattle.pieces.specs.Spelled.{given}
+use Rattle.pieces.specs.Spelled.{pieceIf}
 use Rattle.lowering.specs.Lowered.{loweringOf, exprOf}
 use Rattle.lowering.specs.Commas.{argOf, argsOf, treesOf, listed, least}
 
@@ -74,13 +74,13 @@ take-listed E f c a n =
 module _ (E : Edition) (f : List ℕ) where
   -- ---- as the definition has them
   rest-are : (ns : List ℕ) → argsOf E f true ns ≡ gather (λ y. punct (txt ", ") ∷ e (loweringOf E f .gen) y) (treesOf E f ns)
-  unfolding argsOf argOf exprOf given gather treesOf
+  unfolding argsOf argOf exprOf pieceIf gather treesOf
   rest-are [] = refl
   rest-are (n ∷ ns) =
       ap (λ (l : List Token). punct (txt ", ") ∷ (e (loweringOf E f .gen) (treeAt (allTrees E f) n) ++ l)) (rest-are ns)
 
   pub args-are : (ns : List ℕ) → argsOf E f false ns ≡ commaList (loweringOf E f) (treesOf E f ns)
-  unfolding argsOf argOf exprOf given commaList treesOf
+  unfolding argsOf argOf exprOf pieceIf commaList treesOf
   args-are [] = refl
   args-are (n ∷ ns) = ap (λ (l : List Token). e (loweringOf E f .gen) (treeAt (allTrees E f) n) ++ l) (rest-are ns)
 

@@ -10,12 +10,12 @@ use Rattle.definition.specs.Contents.{itemWord}
 use Rattle.definition.specs.Ssa.{Expr}
 use Rattle.definition.specs.Read.{treeAt, allTrees}
 use Rattle.definition.specs.Tokens.{Token, punct}
-use Rattle.pieces.specs.Spelled.{given}
+use Rattle.pieces.specs.Spelled.{pieceIf}
 use Rattle.lowering.specs.Lowered.{exprOf}
 
 -- expression n behind others or as the first; and such expressions
 unfoldable pub argOf : Edition → List ℕ → Bool → ℕ → List Token
-argOf E f more n = given more (punct (txt ", ")) ++ exprOf E f n
+argOf E f more n = pieceIf more (punct (txt ", ")) ++ exprOf E f n
 
 unfoldable pub argsOf : Edition → List ℕ → Bool → List ℕ → List Token
 argsOf E f more [] = []

@@ -7,7 +7,7 @@ use Prim.Native.Nat.{ℕ}
 use Rattle.definition.specs.Tokens.{Token}
 use Rattle.room.specs.declared.out.Out.{Out}
 use Rattle.room.specs.Room.{Room, roomOf, emit, emitAll}
-use Rattle.pieces.specs.Spelled.{given}
+use Rattle.pieces.specs.Spelled.{pieceIf}
 
 -- the room that a contract says is one
 one : (y : Room) (k k′ t t′ : List ℕ) (r r′ : Out) → roomOf k t r ≡ y → roomOf k′ t′ r′ ≡ y → (k ≡ k′) × (t ≡ t′) × (r ≡ r′)
@@ -19,5 +19,5 @@ one y k k′ t t′ r r′ e f =
 pub piece : (x : Room) (p : Token) (k k′ t t′ : List ℕ) (r r′ : Out) → roomOf k t r ≡ emit x p → roomOf k′ t′ r′ ≡ emit x p → (k ≡ k′) × (t ≡ t′) × (r ≡ r′)
 piece x p = one (emit x p)
 
-pub put-if : (x : Room) (b : Bool) (p : Token) (k k′ t t′ : List ℕ) (r r′ : Out) → roomOf k t r ≡ emitAll x (given b p) → roomOf k′ t′ r′ ≡ emitAll x (given b p) → (k ≡ k′) × (t ≡ t′) × (r ≡ r′)
-put-if x b p = one (emitAll x (given b p))
+pub put-if : (x : Room) (b : Bool) (p : Token) (k k′ t t′ : List ℕ) (r r′ : Out) → roomOf k t r ≡ emitAll x (pieceIf b p) → roomOf k′ t′ r′ ≡ emitAll x (pieceIf b p) → (k ≡ k′) × (t ≡ t′) × (r ≡ r′)
+put-if x b p = one (emitAll x (pieceIf b p))

@@ -33,5 +33,5 @@ spelled f (Global x) = globalText f (x .t) (x .c) (x .size)
 spelled f (Flags x) = txt "__flags_" ++ part f (x .at) (x .n)
 
 -- the one piece p, or none
-unfoldable pub given : Bool → Token → List Token
-given there p = cond there (p ∷ []) []
+unfoldable pub pieceIf : Bool → Token → List Token
+pieceIf there p = cond there (p ∷ []) []

@@ -12,7 +12,7 @@ ghost use Rattle.definition.specs.Registers.{regName};
 ghost use Rattle.definition.specs.Render.{pointer as pointerOf};
 ghost use Rattle.definition.specs.Tokens.{tok};
 ghost use Rattle.room.specs.Room.{roomOf, emit, emitAll};
-ghost use Rattle.pieces.specs.Spelled.{made, given};
+ghost use Rattle.pieces.specs.Spelled.{made, pieceIf};
 
 // A piece of any kind.
 pub fn put(tokens: &mut [u64], text: &mut [u8], out: Out, kind: u32, bytes: &[u8]) -> Out
@@ -32,7 +32,7 @@ pub fn put_if(
     there: bool,
 ) -> Out
     ensures { λ r. ⌜ roomOf (now (tokens .exit)) (now (text .exit)) r
-        ≡ emitAll (roomOf (now (tokens .entry)) (now (text .entry)) out) (given there (tok kind (now (bytes .entry)))) ⌝ }
+        ≡ emitAll (roomOf (now (tokens .entry)) (now (text .entry)) out) (pieceIf there (tok kind (now (bytes .entry)))) ⌝ }
 {
     if there {
         return put(tokens, text, out, kind, bytes);

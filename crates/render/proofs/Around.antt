@@ -25,7 +25,7 @@ use Rattle.ssa.specs.declared.node.Load.{Load as LoadS}
 use Rattle.room.specs.declared.out.Out.{Out}
 use Rattle.room.specs.Room.{Room, roomOf, isFull, emit, emitAll, seen}
 use Rattle.room.proofs.Laws.{next, more, full-stays, one}
-use Rattle.pieces.specs.Spelled.{given}
+use Rattle.pieces.specs.Spelled.{pieceIf}
 use Rattle.render.specs.declared.form.Leaf.{Leaf as LeafS}
 use Rattle.render.specs.declared.form.Form.{Form}
 use Rattle.render.specs.declared.form.Form.the-variants.{Leaf, Use, Bin, Un, Through}
@@ -40,8 +40,8 @@ unfolding isFull
 stays k b o ps e = full-stays (roomOf k b o) ps e
 
 -- ---- the form's own pieces and its children's
-parted : (top : Bool) (a b : List Token) (o : Token) → given (not top) (punct (txt "(")) ++ (a ++ ((o ∷ []) ++ (b ++ given (not top) (punct (txt ")"))))) ≡ nested top (a ++ (o ∷ b))
-unfolding given nested
+parted : (top : Bool) (a b : List Token) (o : Token) → pieceIf (not top) (punct (txt "(")) ++ (a ++ ((o ∷ []) ++ (b ++ pieceIf (not top) (punct (txt ")"))))) ≡ nested top (a ++ (o ∷ b))
+unfolding pieceIf nested
 parted true a b o = ap (λ (l : List Token). a ++ (o ∷ l)) (append-nil b)
 parted false a b o = ap (λ (l : List Token). punct (txt "(") ∷ l) (sym (append-assoc a (o ∷ b) (punct (txt ")") ∷ [])))
 
@@ -50,9 +50,9 @@ module _ (f : List ℕ) (t pos n : ℕ) where
   abbrev Child : Bool → ℕ → Room → Room → Type 0
   Child top x r₀ r₁ = (E : Edition) → text E ≡ t → seen r₁ ≡ seen (emitAll r₀ (renderedBelow E f pos n top x))
 
-  pub binary-is : (r₅ r₄ r₃ r₂ r₁ r₀ : Room) (top : Bool) (s : BinS) → r₁ ≡ emitAll r₀ (given (not top) (punct (txt "("))) → Child false (s .left) r₁ r₂
+  pub binary-is : (r₅ r₄ r₃ r₂ r₁ r₀ : Room) (top : Bool) (s : BinS) → r₁ ≡ emitAll r₀ (pieceIf (not top) (punct (txt "("))) → Child false (s .left) r₁ r₂
       → ((E : Edition) → text E ≡ t → seen r₃ ≡ seen (emitAll r₂ (operator (textAt E f (s .op .start) (s .op .len)) ∷ [])))
-      → Child false (s .right) r₃ r₄ → r₅ ≡ emitAll r₄ (given (not top) (punct (txt ")")))
+      → Child false (s .right) r₃ r₄ → r₅ ≡ emitAll r₄ (pieceIf (not top) (punct (txt ")")))
       → (E : Edition) → text E ≡ t → seen r₅ ≡ seen (emitAll r₀ (formTokens E f pos n top (Bin s)))
   unfolding formTokens
   binary-is r₅ r₄ r₃ r₂ r₁ r₀ top s a b o d e E z =
