@@ -9,6 +9,7 @@ use lib.Dec.{eqb, ltb}
 use borrow.Author.Tests.{ltb-true, ltb-false, lt-ltb, le-ltb, eqb-true, eq-eqb, ne-eqb}
 use Rattle.definition.specs.Codes.{tConst, tUse, tBin, tUn, tLoad}
 use Rattle.definition.specs.Edition.{Edition, expressions}
+use Rattle.definition.specs.Texts.{txt}
 use Rattle.definition.specs.Lists.{range}
 use Rattle.definition.specs.Contents.{size, text, textAt, itemWord, exprWord, exprLong}
 use Rattle.definition.specs.Owners.{stmtField}
@@ -16,7 +17,7 @@ use Rattle.definition.specs.Ssa.{Expr, Name}
 use Rattle.definition.specs.Read.{treeAt, tree, trees, allTrees, read}
 use Rattle.definition.specs.Offsets.{offsets}
 use Rattle.definition.specs.Lookup.{globalName}
-use Rattle.definition.specs.Tokens.{tok, symbol}
+use Rattle.definition.specs.Tokens.{Token, tok, symbol}
 use Rattle.definition.specs.Render.{globalOf, globalOr}
 use Rattle.definition.specs.Lower.{direct, slotName, indirect, isIndirect}
 use Rattle.definition.proofs.Bools.{by-test, by-cond}
@@ -25,11 +26,11 @@ use Rattle.text.specs.Supplied.{isGlobal, globalText}
 use Rattle.text.proofs.Lookups.{global-is}
 use Rattle.room.specs.Room.{Room, emit, emitAll, seen}
 use Rattle.room.proofs.Laws.{done, one}
-use Rattle.lowering.specs.Lowered.{loweringOf, exprOf}
+use Rattle.lowering.specs.Lowered.{loweringOf, exprOf, withinOf}
 use Rattle.calls.specs.Spelled.{directText}
 use Rattle.calls.proofs.Naming.{direct-tokens}
 use Rattle.lowering.specs.Commas.{treesOf, listed}
-use Rattle.calling.specs.Written.{isSlot, slotText, computedOf, firstTokens, targetText, targetOf}
+use Rattle.calling.specs.Written.{isSlot, slotText, targetText, targetOf}
 use Rattle.lowering.proofs.Gen.{gen-supplied}
 use Rattle.lowering.proofs.Commas.{listed-cons}
 
@@ -94,17 +95,20 @@ module _ (E : Edition) (f : List ℕ) where
       three false q r s y k = refl
 
   -- ---- as the target
+  abbrev firstTokens : ℕ → List Token
+  firstTokens n = indirect (loweringOf E f) (treeAt (allTrees E f) n ∷ [])
+
   pub first-slot : (t n : ℕ) (r r₀ : Room) (b : Bool) → b ≡ isSlot f n → b ≡ true → text E ≡ t → r ≡ emit r₀ (tok 4 (slotText f t n))
-      → seen r ≡ seen (emitAll r₀ (firstTokens E f n))
-  unfolding firstTokens indirect globalOr
+      → seen r ≡ seen (emitAll r₀ (firstTokens n))
+  unfolding indirect globalOr
   first-slot t n r r₀ b s h q k =
       let named : slotName (loweringOf E f) (treeAt (allTrees E f) n) ≡ some (slotText f t n) =
       slot-is n ∙ ap (λ (p : Bool). cond p (some (slotText f (text E) n)) none) (sym s ∙ h) ∙ ap (λ (j : ℕ). some (slotText f j n)) q in
       rw named (one r r₀ (symbol (slotText f t n)) k)
 
-  pub first-computed : (n : ℕ) (r r₀ : Room) (b : Bool) → b ≡ isSlot f n → b ≡ false → seen r ≡ seen (emitAll r₀ (computedOf E f n))
-      → seen r ≡ seen (emitAll r₀ (firstTokens E f n))
-  unfolding firstTokens indirect globalOr computedOf exprOf
+  pub first-computed : (n : ℕ) (r r₀ : Room) (b : Bool) → b ≡ isSlot f n → b ≡ false → seen r ≡ seen (emitAll r₀ (withinOf E f (txt "(*") n (txt ")")))
+      → seen r ≡ seen (emitAll r₀ (firstTokens n))
+  unfolding indirect globalOr withinOf exprOf
   first-computed n r r₀ b s h k =
       let none-named : slotName (loweringOf E f) (treeAt (allTrees E f) n) ≡ none =
       slot-is n ∙ ap (λ (p : Bool). cond p (some (slotText f (text E) n)) none) (sym s ∙ h) in
@@ -115,9 +119,9 @@ module _ (E : Edition) (f : List ℕ) where
   unfolding indirect treesOf listed range
   indirect-none item n r h = rw h (done r)
 
-  pub indirect-first : (item n x : ℕ) (r r₀ : Room) → (n ≡ 0 → ⊥) → x ≡ itemWord f item 0 → seen r ≡ seen (emitAll r₀ (firstTokens E f x))
+  pub indirect-first : (item n x : ℕ) (r r₀ : Room) → (n ≡ 0 → ⊥) → x ≡ itemWord f item 0 → seen r ≡ seen (emitAll r₀ (firstTokens x))
       → seen r ≡ seen (emitAll r₀ (indirect (loweringOf E f) (treesOf E f (listed f item n))))
-  unfolding firstTokens indirect treesOf
+  unfolding indirect treesOf
   indirect-first item zero x r r₀ h w k = absurd (h refl)
   indirect-first item (suc n) x r r₀ h w k = rw (listed-cons f item n, ← w) k
 

@@ -10,14 +10,14 @@ use Rattle.definition.specs.Contents.{size, exprWord, exprLong, textAt}
 use Rattle.definition.specs.Owners.{stmtKind, stmtField}
 use Rattle.definition.specs.Values.{value}
 use Rattle.definition.specs.Meaning.{bits}
-use Rattle.definition.specs.Read.{when, treeAt, allTrees, marked}
+use Rattle.definition.specs.Read.{when, marked}
 use Rattle.definition.specs.Registers.{regName}
 use Rattle.definition.specs.Lookup.{nameOr}
 use Rattle.definition.specs.Tokens.{Token, register, punct}
 use Rattle.definition.specs.Lower.{resultTokens, direct, indirect, isIndirect, commaList}
 use Rattle.text.specs.Supplied.{isGlobal, globalText}
 use Rattle.names.specs.Codes.{nameText}
-use Rattle.lowering.specs.Lowered.{loweringOf, exprOf}
+use Rattle.lowering.specs.Lowered.{loweringOf}
 use Rattle.lowering.specs.Commas.{argOf, treesOf, listed, least}
 use Rattle.calls.specs.Waiting.{pushedNodes}
 
@@ -45,14 +45,6 @@ isSlot f n =
 
 unfoldable pub slotText : List ℕ → ℕ → ℕ → List ℕ
 slotText f t n = globalText f t (exprLong f (exprWord f n 2) 1) (exprWord f n 1)
-
--- `(*E)`
-unfoldable pub computedOf : Edition → List ℕ → ℕ → List Token
-computedOf E f n = punct (txt "(*") ∷ (exprOf E f n ++ (punct (txt ")") ∷ []))
-
--- expression n as a target
-unfoldable pub firstTokens : Edition → List ℕ → ℕ → List Token
-firstTokens E f n = indirect (loweringOf E f) (treeAt (allTrees E f) n ∷ [])
 
 unfoldable pub targetText : Edition → List ℕ → ℕ → List ℕ
 targetText E f i = textAt E f (stmtField f i 0) (stmtField f i 1)

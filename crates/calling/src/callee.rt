@@ -1,10 +1,8 @@
 // What a call calls: a name, or an expression.
 use calls::direct::is_indirect;
 use calls::direct::put_direct;
-use lowering::kinds::PUNCT;
-use lowering::list::put_expr;
+use lowering::list::put_within;
 use pieces::from_file::put_global;
-use pieces::put::put;
 use places::Places;
 use records::contents::EXPRESSIONS;
 use records::contents::expr_long;
@@ -25,7 +23,7 @@ ghost use Rattle.room.specs.Room.{roomOf, emit, emitAll, seen};
 ghost use Rattle.render.specs.Told.{Told};
 ghost use Rattle.lowering.specs.Lowered.{loweringOf};
 ghost use Rattle.lowering.specs.Commas.{listed, treesOf};
-ghost use Rattle.calling.specs.Written.{isSlot, slotText, computedOf, firstTokens, targetOf};
+ghost use Rattle.calling.specs.Written.{isSlot, slotText, targetOf};
 
 // Whether expression n loads a constant that names a global. A child that is not lower counts as no constant.
 fn is_slot(f: &[u8], n: u32) -> bool
@@ -57,78 +55,7 @@ fn put_slot(tokens: &mut [u64], text: &mut [u8], out: Out, f: &[u8], t: u32, n: 
     put_global(tokens, text, out, f, t, c, size)
 }
 
-// `(*E)`
-fn put_computed(
-    tokens: &mut [u64],
-    text: &mut [u8],
-    out: Out,
-    f: &[u8],
-    t: u32,
-    places: Places,
-    numbers: &[u32],
-    offs: &[u64],
-    placed: &[u32],
-    names: &[u32],
-    n: u32,
-) -> Out
-    requires { ⌜ Told (now f) t places (now numbers) (now offs) (now placed) (now names) ⌝ }
-    ensures { λ r. ⌜ ((E : Edition) → textOf E ≡ t → seen (roomOf (now (tokens .exit)) (now (text .exit)) r)
-        ≡ seen (emitAll (roomOf (now (tokens .entry)) (now (text .entry)) out) (computedOf E (now (f .entry)) n))) ⌝ }
-{
-    let out = put(tokens, text, out, PUNCT, b"(*");
-    let out = put_expr(
-        tokens,
-        text,
-        out,
-        f,
-        t,
-        places,
-        numbers,
-        offs,
-        placed,
-        names,
-        n,
-    );
-    put(tokens, text, out, PUNCT, b")")
-}
-
-// The call's first argument, n, as its target.
-fn put_first(
-    tokens: &mut [u64],
-    text: &mut [u8],
-    out: Out,
-    f: &[u8],
-    t: u32,
-    places: Places,
-    numbers: &[u32],
-    offs: &[u64],
-    placed: &[u32],
-    names: &[u32],
-    n: u32,
-) -> Out
-    requires { ⌜ Told (now f) t places (now numbers) (now offs) (now placed) (now names) ⌝ }
-    ensures { λ r. ⌜ ((E : Edition) → textOf E ≡ t → seen (roomOf (now (tokens .exit)) (now (text .exit)) r)
-        ≡ seen (emitAll (roomOf (now (tokens .entry)) (now (text .entry)) out) (firstTokens E (now (f .entry)) n))) ⌝ }
-{
-    if is_slot(f, n) {
-        return put_slot(tokens, text, out, f, t, n);
-    }
-    put_computed(
-        tokens,
-        text,
-        out,
-        f,
-        t,
-        places,
-        numbers,
-        offs,
-        placed,
-        names,
-        n,
-    )
-}
-
-// Of n arguments from list item `item` on.
+// Of n arguments from list item `item` on: the first is the target, a global or `(*E)`.
 fn put_indirect(
     tokens: &mut [u64],
     text: &mut [u8],
@@ -151,7 +78,10 @@ fn put_indirect(
         return out;
     }
     let x = item_word(f, item, 0);
-    put_first(
+    if is_slot(f, x) {
+        return put_slot(tokens, text, out, f, t, x);
+    }
+    put_within(
         tokens,
         text,
         out,
@@ -162,7 +92,9 @@ fn put_indirect(
         offs,
         placed,
         names,
+        b"(*",
         x,
+        b")",
     )
 }
 

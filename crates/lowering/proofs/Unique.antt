@@ -13,7 +13,7 @@ use Rattle.room.specs.Ending.{Ended}
 use Rattle.room.proofs.Unique.{end-line}
 use Rattle.lowering.specs.Commas.{least}
 
--- put_expr, put_arg, put_items: the pieces that an edition has
+-- put_expr, put_within, put_arg, put_items: the pieces that an edition has
 pub pieces : (ps : Edition → List Token) (E : Edition) (t : ℕ) → text E ≡ t → (r s entry : Room)
     → ((D : Edition) → text D ≡ t → seen r ≡ seen (emitAll entry (ps D))) → ((D : Edition) → text D ≡ t → seen s ≡ seen (emitAll entry (ps D))) → seen r ≡ seen s
 pieces ps E t section r s entry p q = p E section ∙ sym (q E section)

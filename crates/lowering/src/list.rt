@@ -1,5 +1,6 @@
-// Expressions with `, ` between them.
+// An expression, alone or between two signs; and expressions with `, ` between them.
 use crate::kinds::PUNCT;
+use pieces::put::put;
 use pieces::put::put_if;
 use places::Places;
 use records::contents::STATEMENTS;
@@ -17,7 +18,7 @@ ghost use Rattle.definition.specs.Read.{treeAt, allTrees};
 ghost use Rattle.definition.specs.Lower.{commaList};
 ghost use Rattle.room.specs.Room.{roomOf, emitAll, seen};
 ghost use Rattle.render.specs.Told.{Told};
-ghost use Rattle.lowering.specs.Lowered.{loweringOf, exprOf};
+ghost use Rattle.lowering.specs.Lowered.{loweringOf, exprOf, withinOf};
 ghost use Rattle.lowering.specs.Commas.{argOf, least};
 
 // The lesser of two numbers.
@@ -64,6 +65,43 @@ pub fn put_expr(
         n,
         true,
     )
+}
+
+// Expression n between two signs.
+pub fn put_within(
+    tokens: &mut [u64],
+    text: &mut [u8],
+    out: Out,
+    f: &[u8],
+    t: u32,
+    places: Places,
+    numbers: &[u32],
+    offs: &[u64],
+    placed: &[u32],
+    names: &[u32],
+    front: &[u8],
+    n: u32,
+    back: &[u8],
+) -> Out
+    requires { ⌜ Told (now f) t places (now numbers) (now offs) (now placed) (now names) ⌝ }
+    ensures { λ r. ⌜ ((E : Edition) → textOf E ≡ t → seen (roomOf (now (tokens .exit)) (now (text .exit)) r)
+        ≡ seen (emitAll (roomOf (now (tokens .entry)) (now (text .entry)) out) (withinOf E (now (f .entry)) (now (front .entry)) n (now (back .entry))))) ⌝ }
+{
+    let out = put(tokens, text, out, PUNCT, front);
+    let out = put_expr(
+        tokens,
+        text,
+        out,
+        f,
+        t,
+        places,
+        numbers,
+        offs,
+        placed,
+        names,
+        n,
+    );
+    put(tokens, text, out, PUNCT, back)
 }
 
 // Behind others or as the first.

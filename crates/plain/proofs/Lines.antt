@@ -14,8 +14,8 @@ use Rattle.definition.specs.Offsets.{offsets}
 use Rattle.definition.specs.Tokens.{Line, line}
 use Rattle.definition.specs.Lower.{Here, restores, assign, silent, store, return, other, lowerKind}
 use Rattle.definition.specs.Blocks.{isSave}
-use Rattle.lowering.specs.Lowered.{loweringOf, lowered, exprOf}
-use Rattle.plain.specs.Pieces.{becomes, resultOf, returnOf, isTaken, isSilent, throughOf, destinationOf, storeOf, target, isGone, assignOf}
+use Rattle.lowering.specs.Lowered.{loweringOf, lowered, exprOf, withinOf}
+use Rattle.plain.specs.Pieces.{resultOf, returnOf, isTaken, isSilent, throughOf, destinationOf, storeOf, target, isGone, assignOf}
 use Rattle.plain.specs.Asm.{otherOf}
 use Rattle.lowering.proofs.Gen.{gen-bits, gen-offsets}
 
@@ -36,12 +36,12 @@ module _ (E : Edition) (f : List ℕ) (H : Here) (pend : List Stmt) (set : List 
 
   pub store-lines : stmtKind f i ≡ 2
       → lowered E f H pend set end i ≡ cond (marked f i 1) [] (cond (isSilent E f (offsets (read E f)) end i) [] (line 1 (some (stmtLong f i 0)) (storeOf E f i) ∷ []))
-  unfolding lowered lowerKind stmtAt kindAt store silent isSilent isTaken isSave storeOf destinationOf throughOf becomes exprOf
+  unfolding lowered lowerKind stmtAt kindAt store silent isSilent isTaken isSave storeOf destinationOf throughOf withinOf exprOf
   store-lines is = rw (is, gen-bits E f, gen-offsets E f)
 
   pub assign-lines : stmtKind f i ≡ 1
       → lowered E f H pend set end i ≡ cond (isGone E f i) [] (cond (restores (loweringOf E f) (target f i) (treeAt (allTrees E f) (stmtField f i 2))) [] (line 1 (some (stmtLong f i 0)) (assignOf E f i) ∷ []))
-  unfolding lowered lowerKind stmtAt kindAt assign isGone assignOf becomes exprOf
+  unfolding lowered lowerKind stmtAt kindAt assign isGone assignOf withinOf exprOf
   assign-lines is =
       rw is (in-turn (isGone E f i) (restores (loweringOf E f) (target f i) (treeAt (allTrees E f) (stmtField f i 2))) (line 1 (some (stmtLong f i 0)) (assignOf E f i) ∷ []))
 

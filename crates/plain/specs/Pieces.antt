@@ -18,11 +18,11 @@ use Rattle.definition.specs.Render.{variable, slotOr, through}
 use Rattle.definition.specs.Lower.{takes, returnTokens}
 use Rattle.definition.specs.Blocks.{isSave}
 use Rattle.inline.specs.Placing.{behind}
-use Rattle.lowering.specs.Lowered.{loweringOf, exprOf}
+use Rattle.lowering.specs.Lowered.{loweringOf, exprOf, withinOf}
 
 -- ` = E;`
-unfoldable pub becomes : Edition → List ℕ → ℕ → List Token
-becomes E f n = punct (txt " = ") ∷ (exprOf E f n ++ (punct (txt ";") ∷ []))
+abbrev pub becomes : Edition → List ℕ → ℕ → List Token
+becomes E f n = withinOf E f (txt " = ") n (txt ";")
 
 -- ---- a Return: what it gives back, and all of it
 unfoldable pub resultOf : Edition → List ℕ → ℕ → List Token

@@ -1,8 +1,8 @@
 // The line of an Assign.
 use crate::parts::number_of;
-use crate::parts::put_becomes;
 use defined::value::RSP;
 use lowering::line::end_stmt;
+use lowering::list::put_within;
 use meaning::meaning::bits_of;
 use places::Places;
 use records::contents::EXPRESSIONS;
@@ -144,7 +144,7 @@ fn put_assign(
     let n = stmt_field(f, i, 2);
     let m = number_of(numbers, places.stmts, i);
     let out = put_name(tokens, text, out, f, names, i, m);
-    put_becomes(
+    put_within(
         tokens,
         text,
         out,
@@ -155,7 +155,9 @@ fn put_assign(
         offs,
         placed,
         names,
+        b" = ",
         n,
+        b";",
     )
 }
 

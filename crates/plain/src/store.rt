@@ -1,9 +1,9 @@
 // The line of a Store.
-use crate::parts::put_becomes;
 use calls::pushes::taken_behind;
 use lowering::kinds::PUNCT;
 use lowering::line::end_stmt;
 use lowering::list::put_expr;
+use lowering::list::put_within;
 use marks::saves::is_save;
 use meaning::meaning::bits_of;
 use pieces::put::put;
@@ -174,7 +174,7 @@ fn put_store(
         names,
         i,
     );
-    put_becomes(
+    put_within(
         tokens,
         text,
         out,
@@ -185,7 +185,9 @@ fn put_store(
         offs,
         placed,
         names,
+        b" = ",
         n,
+        b";",
     )
 }
 

@@ -14,8 +14,14 @@ number-of-requires c κs = stmts-low _ (c .before .before .before .before .befor
 put-name-requires : tie.Need-put-name-requires
 put-name-requires c κs = search needs
 
-put-becomes-requires : tie.Need-put-becomes-requires
-put-becomes-requires c κs = search needs
+slice-aggregate-put-within : tie.Need-slice-aggregate-put-within
+slice-aggregate-put-within c = search needs
+
+slice-aggregate-put-within-2 : tie.Need-slice-aggregate-put-within-2
+slice-aggregate-put-within-2 c = search needs
+
+put-within-requires : tie.Need-put-within-requires
+put-within-requires c κs = search needs
 
 same-length : tie.Need-same-length
 same-length c = search needs
@@ -24,7 +30,7 @@ same-length-2 : tie.Need-same-length-2
 same-length-2 c = search needs
 
 returns : tie.Need-returns
-returns c = λ E s. assign-put _ (c .before .before .before .before .before .before .before .before .before .before .before .before .before .before .before .before .before .before .before .before .shared-slice-known .given) _ _ _ _ _ _ (c .before .before .before .before .before .before .before .before .before .before .before .before .before .before .before .before .before .before .before .before .before .before .before .pre .0) _ (c .before .before .before .before .before .before .before .before .before .before .before .before .before .before .before .before .before .before .before .before .before .before .before .pre .1 .0) (c .before .before .before .before .before .before .before .before .before .before .before .before .before .before .before .before .before .before .before .before .before .before .before .pre .1 .1) _ (c .before .before .before .before .before .before .before .before .before .before .before .before .before .before .number-of .ensures) E _ _ _ _ (c .before .before .before .before .before .before .before .before .before .before .before .put-name .ensures) (c .before .before .before .before .before .before .before .before .before .before .before .before .before .before .before .stmt-field .ensures) (c .before .before .before .before .put-becomes .ensures E s)
+returns c = λ E s. assign-put _ (c .before .before .before .before .before .before .before .before .before .before .before .before .before .before .before .before .before .before .before .before .before .before .shared-slice-known .given) _ _ _ _ _ _ (c .before .before .before .before .before .before .before .before .before .before .before .before .before .before .before .before .before .before .before .before .before .before .before .before .before .pre .0) _ (c .before .before .before .before .before .before .before .before .before .before .before .before .before .before .before .before .before .before .before .before .before .before .before .before .before .pre .1 .0) (c .before .before .before .before .before .before .before .before .before .before .before .before .before .before .before .before .before .before .before .before .before .before .before .before .before .pre .1 .1) _ (c .before .before .before .before .before .before .before .before .before .before .before .before .before .before .before .before .number-of .ensures) E _ _ _ _ (c .before .before .before .before .before .before .before .before .before .before .before .before .before .put-name .ensures) (c .before .before .before .before .before .before .before .before .before .before .before .before .before .before .before .before .before .stmt-field .ensures) (c .before .before .before .before .put-within .ensures E s)
 
 pub put-assign-spec : {M : Type 1} → statement M
 put-assign-spec =
@@ -33,7 +39,9 @@ put-assign-spec =
     stmt-field-requires
     number-of-requires
     put-name-requires
-    put-becomes-requires
+    slice-aggregate-put-within
+    slice-aggregate-put-within-2
+    put-within-requires
     same-length
     same-length-2
     returns)
