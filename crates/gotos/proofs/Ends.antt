@@ -8,13 +8,14 @@ use Prim.Native.Nat.{ℕ, _-_, _<_}
 use native.Mathlib.Omega.{arith}
 use lib.ListN.{length, replicate}
 use Rattle.definition.specs.Edition.{Edition, blocks}
+use Rattle.definition.specs.Texts.{txt}
 use Rattle.definition.specs.Lists.{among, orElse, range, at}
 use Rattle.definition.specs.Contents.{size, blockLong}
 use Rattle.definition.specs.Ssa.{Block}
 use Rattle.definition.specs.Read.{allTrees, blockAt, read}
 use Rattle.definition.specs.Numbers.{label}
 use Rattle.definition.specs.Lookup.{order, isNext, jumpsFrom}
-use Rattle.definition.specs.Tokens.{Line, symbol, line}
+use Rattle.definition.specs.Tokens.{Line, symbol, punct, line}
 use Rattle.definition.specs.Lower.{gotoTokens}
 use Rattle.definition.specs.Blocks.{lowering, closing, labelLine}
 use Rattle.definition.specs.Listing.{padded}
@@ -26,12 +27,11 @@ use Rattle.values.proofs.Ranges.{at-left, map-length, at-below}
 use Rattle.labels.specs.Labels.{startAt, nextAt, Labels}
 use Rattle.room.specs.declared.out.Out.{Out}
 use Rattle.room.specs.declared.out.At.the-variants.{Nowhere, Address}
-use Rattle.room.specs.Room.{Room, Sheet, sheetOf, roomOf, emitAll, seen, writeAll, seenSheet, optionOf}
+use Rattle.room.specs.Room.{Room, Sheet, sheetOf, roomOf, emit, emitAll, seen, writeAll, seenSheet, optionOf}
 use Rattle.room.specs.Ending.{Ended}
-use Rattle.room.proofs.Laws.{line-ends, written-none}
+use Rattle.room.proofs.Laws.{next, one, line-ends, written-none}
 use Rattle.lowering.specs.Lowered.{loweringOf, hereAt}
 use Rattle.lowering.proofs.Lines.{left-out, not-out}
-use Rattle.gotos.specs.Written.{markTokens}
 use Rattle.gotos.proofs.Edges.{edges-are}
 
 -- the same lines, named otherwise
@@ -69,12 +69,13 @@ module _ (E : Edition) (f labels : List ℕ) (b : ℕ) (all : Labels f (length l
   unfolding labelLine
   label-none s h = rw (marked-not (among (blockLong f b 0) (loweringOf E f .jumps)) label-says h) (written-none s)
 
-  pub label-put : (a : ℕ) (l l′ : List ℕ) (r₀ : Room) (ks ts : List ℕ) (o₁ o : Out) → w ≡ 1 → a ≡ blockLong f b 0
-      → seen (roomOf ks ts o₁) ≡ seen (emitAll r₀ (markTokens a)) → Ended l o₁ 0 (optionOf (Address a)) l′ o
+  pub label-put : (a : ℕ) (l l′ : List ℕ) (r₁ r₀ : Room) (ks ts : List ℕ) (o₁ o : Out) → w ≡ 1 → a ≡ blockLong f b 0
+      → r₁ ≡ emit r₀ (symbol (label a)) → roomOf ks ts o₁ ≡ emit r₁ (punct (txt ":")) → Ended l o₁ 0 (optionOf (Address a)) l′ o
       → seenSheet (sheetOf l′ ks ts o) ≡ seenSheet (writeAll (record { lines = l; room = r₀ }) (labelLine (loweringOf E f) (blockLong f b 0)))
-  unfolding labelLine markTokens
-  label-put a l l′ r₀ ks ts o₁ o h p e d =
-      rw (marked-so (among (blockLong f b 0) (loweringOf E f .jumps)) label-says h, ← p) (line-ends l l′ r₀ (roomOf ks ts o₁) o 0 (some a) _ e d)
+  unfolding labelLine
+  label-put a l l′ r₁ r₀ ks ts o₁ o h p e c d =
+      let room = roomOf ks ts o₁ in
+      rw (marked-so (among (blockLong f b 0) (loweringOf E f .jumps)) label-says h, ← p) (line-ends l l′ r₀ room o 0 (some a) _ (next room r₀ _ _ e (one room r₁ _ c)) d)
 
 -- ---- the closing goto
 pub out-next : (b c d : Bool) → d ≡ b → d ≡ true → true ≡ (b || c)

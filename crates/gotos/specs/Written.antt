@@ -1,4 +1,4 @@
--- The pieces and the lines of labels, gotos, computed jumps and jumps out of the function, by the numbers of blocks, statements and list items.
+-- The pieces and the lines of gotos, computed jumps and jumps out of the function, by the numbers of blocks, statements and list items.
 use mathlib.Core.Bool.{Bool, cond}
 use mathlib.Core.Option.{some}
 use mathlib.Core.List.{List, [], _∷_, _++_}
@@ -22,11 +22,7 @@ use Rattle.lowering.specs.Commas.{treesOf, listed}
 unfoldable pub usesOf : Edition → List ℕ → ℕ → ℕ → List Expr
 usesOf E f a n = treesOf E f (listed f a n)
 
--- ---- labels, gotos, and the line of statement i
--- `LABEL:`
-unfoldable pub markTokens : ℕ → List Token
-markTokens a = symbol (label a) ∷ punct (txt ":") ∷ []
-
+-- ---- gotos, and the line of statement i
 -- `goto `
 unfoldable pub goTokens : List Token
 goTokens = keyword (txt "goto") ∷ textual (txt " ") ∷ []

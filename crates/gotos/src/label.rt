@@ -1,4 +1,4 @@
-// A block's label.
+// A block's label: `LABEL:`
 use lowering::kinds::PUNCT;
 use pieces::put::put;
 use pieces::put::put_label;
@@ -14,18 +14,8 @@ ghost use Rattle.definition.specs.Edition.{Edition, blocks};
 ghost use Rattle.definition.specs.Contents.{size, blockLong};
 ghost use Rattle.definition.specs.Blocks.{labelLine};
 ghost use Rattle.labels.specs.Labels.{Labels};
-ghost use Rattle.room.specs.Room.{roomOf, emitAll, seen, sheetOf, writeAll, seenSheet};
+ghost use Rattle.room.specs.Room.{sheetOf, writeAll, seenSheet};
 ghost use Rattle.lowering.specs.Lowered.{loweringOf};
-ghost use Rattle.gotos.specs.Written.{markTokens};
-
-// `LABEL:`
-fn put_mark(tokens: &mut [u64], text: &mut [u8], out: Out, a: u64) -> Out
-    ensures { λ r. ⌜ seen (roomOf (now (tokens .exit)) (now (text .exit)) r)
-        ≡ seen (emitAll (roomOf (now (tokens .entry)) (now (text .entry)) out) (markTokens a)) ⌝ }
-{
-    let out = put_label(tokens, text, out, a);
-    put(tokens, text, out, PUNCT, b":")
-}
 
 // Where something goes to the block other than by falling into it.
 pub fn label(
@@ -44,7 +34,8 @@ pub fn label(
 {
     if at_u32(labels, block as usize) == 1 {
         let a = block_long(f, block, 0);
-        let out = put_mark(tokens, text, out, a);
+        let out = put_label(tokens, text, out, a);
+        let out = put(tokens, text, out, PUNCT, b":");
         return end_line(lines, out, 0, At::Address(a));
     }
     out

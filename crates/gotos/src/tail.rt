@@ -16,50 +16,7 @@ ghost use Rattle.definition.specs.Edition.{Edition};
 ghost use Rattle.definition.specs.Contents.{text as textOf};
 ghost use Rattle.room.specs.Room.{sheetOf, writeAll, seenSheet};
 ghost use Rattle.render.specs.Told.{Told};
-ghost use Rattle.gotos.specs.Written.{usesOf, stmtLine, callTokens, returnLine, tailOf, leaveOf};
-
-// The line of the call.
-fn call_line(
-    lines: &mut [u64],
-    tokens: &mut [u64],
-    text: &mut [u8],
-    out: Out,
-    f: &[u8],
-    t: u32,
-    places: Places,
-    numbers: &[u32],
-    offs: &[u64],
-    placed: &[u32],
-    names: &[u32],
-    i: u32,
-    a: u64,
-    item: u32,
-    n: u32,
-    returns: bool,
-) -> Out
-    requires { ⌜ Told (now f) t places (now numbers) (now offs) (now placed) (now names) ⌝ }
-    requires { ⌜ item + n < 4294967296 ⌝ }
-    ensures { λ r. ⌜ ((E : Edition) → textOf E ≡ t → seenSheet (sheetOf (now (lines .exit)) (now (tokens .exit)) (now (text .exit)) r)
-        ≡ seenSheet (writeAll (sheetOf (now (lines .entry)) (now (tokens .entry)) (now (text .entry)) out) (stmtLine (now (f .entry)) i (callTokens E (now (f .entry)) a returns (usesOf E (now (f .entry)) item n))))) ⌝ }
-{
-    let out = put_call(
-        tokens,
-        text,
-        out,
-        f,
-        t,
-        places,
-        numbers,
-        offs,
-        placed,
-        names,
-        a,
-        item,
-        n,
-        returns,
-    );
-    end_stmt(lines, out, f, i)
-}
+ghost use Rattle.gotos.specs.Written.{usesOf, returnLine, tailOf, leaveOf};
 
 // `return;` behind a call whose result is not returned.
 fn end_call(
@@ -106,8 +63,7 @@ fn tail_call(
         ≡ seenSheet (writeAll (sheetOf (now (lines .entry)) (now (tokens .entry)) (now (text .entry)) out) (tailOf E (now (f .entry)) i a (usesOf E (now (f .entry)) item n)))) ⌝ }
 {
     let returns = word_at(f, 8) == 1;
-    let out = call_line(
-        lines,
+    let out = put_call(
         tokens,
         text,
         out,
@@ -118,12 +74,12 @@ fn tail_call(
         offs,
         placed,
         names,
-        i,
         a,
         item,
         n,
         returns,
     );
+    let out = end_stmt(lines, out, f, i);
     end_call(lines, tokens, text, out, f, i, returns)
 }
 

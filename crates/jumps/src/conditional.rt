@@ -22,7 +22,6 @@ ghost use Rattle.definition.specs.Owners.{blockStmts, firstStmt};
 ghost use Rattle.room.specs.Room.{roomOf, emitAll, seen, sheetOf, writeAll, seenSheet};
 ghost use Rattle.render.specs.Told.{Told};
 ghost use Rattle.conditions.specs.Pairs.{Set};
-ghost use Rattle.gotos.specs.Written.{stmtLine};
 ghost use Rattle.jumps.specs.Written.{conditionOf, ifTokens, aimOf, testTokens, fallOf, ifLines};
 
 // Where it goes: the block's taken edge, else its own target, else 0.
@@ -160,46 +159,6 @@ fn put_test(
     put_goto_name(tokens, text, out, SYMBOL, f, t, a)
 }
 
-// Its line.
-fn test_line(
-    lines: &mut [u64],
-    tokens: &mut [u64],
-    text: &mut [u8],
-    out: Out,
-    f: &[u8],
-    t: u32,
-    places: Places,
-    numbers: &[u32],
-    offs: &[u64],
-    placed: &[u32],
-    names: &[u32],
-    block: u32,
-    i: u32,
-    setter: Found,
-) -> Out
-    requires { ⌜ Told (now f) t places (now numbers) (now offs) (now placed) (now names) ⌝ }
-    requires { ⌜ Set (now f) t (firstStmt (now f) block) (blockStmts (now f) block) setter ⌝ }
-    ensures { λ r. ⌜ ((E : Edition) → textOf E ≡ t → seenSheet (sheetOf (now (lines .exit)) (now (tokens .exit)) (now (text .exit)) r)
-        ≡ seenSheet (writeAll (sheetOf (now (lines .entry)) (now (tokens .entry)) (now (text .entry)) out) (stmtLine (now (f .entry)) i (testTokens E (now (f .entry)) block i)))) ⌝ }
-{
-    let out = put_test(
-        tokens,
-        text,
-        out,
-        f,
-        t,
-        places,
-        numbers,
-        offs,
-        placed,
-        names,
-        block,
-        i,
-        setter,
-    );
-    end_stmt(lines, out, f, i)
-}
-
 // The goto to where the block falls, unless the next block is meant.
 fn fall_line(
     lines: &mut [u64],
@@ -249,8 +208,7 @@ pub fn conditional(
     ensures { λ r. ⌜ ((E : Edition) → textOf E ≡ t → seenSheet (sheetOf (now (lines .exit)) (now (tokens .exit)) (now (text .exit)) r)
         ≡ seenSheet (writeAll (sheetOf (now (lines .entry)) (now (tokens .entry)) (now (text .entry)) out) (ifLines E (now (f .entry)) block i))) ⌝ }
 {
-    let out = test_line(
-        lines,
+    let out = put_test(
         tokens,
         text,
         out,
@@ -265,5 +223,6 @@ pub fn conditional(
         i,
         setter,
     );
+    let out = end_stmt(lines, out, f, i);
     fall_line(lines, tokens, text, out, f, t, block, i)
 }
