@@ -17,6 +17,7 @@ use Rattle.definition.proofs.SweepDo.{do-goes, loops-swept}
 use Rattle.records.proofs.Padded.{drop-zeros}
 use Rattle.outline.specs.Rows.{linesOf}
 use Rattle.outline.specs.Spans.{spansOf}
+use Rattle.passes.specs.declared.sweeps.Formed.{Formed}
 use Rattle.passes.specs.declared.sweeps.Passed.{Passed}
 use Rattle.passes.specs.declared.sweeps.Passed.the-variants.{Done, TooDeep}
 use Rattle.passes.specs.Sweeps.{Swept, swept, done, ifTried, doTried, keeps, ifRows, doRows}
@@ -60,13 +61,9 @@ isDone : Passed → Bool
 isDone (Done f) = true
 isDone TooDeep = false
 
-rowsIn : Passed → ℕ
-rowsIn (Done f) = f .rows
-rowsIn TooDeep = 0
-
-regionsIn : Passed → ℕ
-regionsIn (Done f) = f .regions
-regionsIn TooDeep = 0
+formedIn : Passed → Formed
+formedIn (Done f) = f
+formedIn TooDeep = record { rows = 0; regions = 0 }
 
 -- a pass that ended with the m rows of Q, and c regions
 pub record Over (ls : List Line) (l : ℕ) (R : List ℕ) (n : ℕ) (Q T : List ℕ) (m c : ℕ) (p : LinesPassed) : Type 0 where
@@ -84,11 +81,11 @@ module _ {ls : List Line} {l : ℕ} {R : List ℕ} {n : ℕ} where
       subst₂ (λ (Q T : List ℕ). Over ls l R n Q T m c p) eq et (subst₂ (λ (m c : ℕ). Over ls l R n Q′ T′ m c p) em ec v)
 
   pub ended-done : (Q T : List ℕ) (m c : ℕ) {z : Swept} {p : LinesPassed} → swept (done m c) Q T ≡ z → Ends ls l R n z p → Over ls l R n Q T m c p
-  unfolding isDone rowsIn regionsIn
+  unfolding isDone formedIn
   ended-done Q T m c e (deeper q) = absurd (true≢false (ap (λ (x : Swept). isDone (x .passed)) e))
   ended-done Q T m c e (over H G w q k d) =
-      same-over (sym (ap (λ (x : Swept). x .rows) e)) (sym (ap (λ (x : Swept). x .spans) e)) (sym (ap (λ (x : Swept). rowsIn (x .passed)) e))
-      (sym (ap (λ (x : Swept). regionsIn (x .passed)) e)) (record { lines = refl; held = H; good = G; room = w; long = q; more = k; behind = d })
+      same-over (sym (ap (λ (x : Swept). x .rows) e)) (sym (ap (λ (x : Swept). x .spans) e)) (sym (ap (λ (x : Swept). formedIn (x .passed) .rows) e))
+      (sym (ap (λ (x : Swept). formedIn (x .passed) .regions) e)) (record { lines = refl; held = H; good = G; room = w; long = q; more = k; behind = d })
 
   pub ended-deep : (Q T : List ℕ) {z : Swept} {p : LinesPassed} → swept TooDeep Q T ≡ z → Ends ls l R n z p → p ≡ linesDeep
   unfolding isDone

@@ -1,5 +1,4 @@
--- Without an item there is no target and nothing is put; otherwise the first item is the target, whatever follows it: by its name where it loads a
--- constant that names a global, and any other tree in `(*` and `)`.
+-- Without an item nothing is put; else the first one is the target: by its name where it loads a global, and any other tree in `(*` and `)`.
 use Rattle.calling.proofs.Slots.{first-slot, first-computed, indirect-none, indirect-first}
 use borrow.Author.Needs.{needs}
 use Rattle.calling.proofs.callee.put_indirect.Statement.{statement}
