@@ -17,7 +17,7 @@ use Rattle.definition.proofs.Bools.{eqb-swap, is-false, by-test}
 use Rattle.definition.proofs.TextLaws.{same-eq, same-refl}
 use Rattle.definition.proofs.ListLaws.{Each}
 use Rattle.outline.specs.Rows.{kindOf, indentOf, nameOf, originOf, toksOf, lineAt, lineOf}
-use Rattle.outline.specs.Tests.{isLabel, isCond, isGoto, labels, backs, stops, tooDeep}
+use Rattle.outline.specs.Tests.{isKind, isLabel, isCond, isGoto, labels, backs, stops, tooDeep}
 
 -- a goto to the label m
 unfoldable pub goesTo : ℕ → ℕ → Bool
@@ -87,16 +87,16 @@ module _ (ls : List Line) (w : ℕ) where
 
   -- which rows are labels, and which are conditional jumps
   has-label : (s : Sort) → Codes ls s w → has (labelName s) ≡ isLabel w
-  unfolding has labelName isLabel
+  unfolding has labelName isKind
   has-label = by-kind (λ s k. has (labelName s) ≡ eqb k 1) (λ u c. refl) (λ t a. refl) (λ t a. refl) refl refl refl refl refl
 
   has-cond : (s : Sort) → Codes ls s w → has (condName s) ≡ isCond w
-  unfolding has condName isCond
+  unfolding has condName isKind
   has-cond = by-kind (λ s k. has (condName s) ≡ eqb k 2) (λ u c. refl) (λ t a. refl) (λ t a. refl) refl refl refl refl refl
 
   -- the label of the name m, which is that of t
   is-label : (t : List ℕ) (m : ℕ) → Aims ls t m → (s : Sort) → Codes ls s w → sort (lineOf ls w) ≡ s → is t (labelName s) ≡ labels m w
-  unfolding is labelName labels isLabel
+  unfolding is labelName labels isKind
   is-label t m a =
       by-kind (λ s k. sort (lineOf ls w) ≡ s → is t (labelName s) ≡ (eqb k 1 && eqb (nameOf w) m))
       (λ u c e. a (originOf w) u (line-label ls w u e (c .0)) ∙ ap (λ (q : ℕ). eqb q m) (sym (c .1))) (λ t a e. refl) (λ t a e. refl)
@@ -114,7 +114,7 @@ module _ (ls : List Line) (w : ℕ) where
         by-kind (λ s k. is u (aimName s) ≡ ((eqb k 2 || eqb k 3) && eqb (nameOf w) (nameOf v))) (λ u c. refl) same-name same-name refl refl refl refl refl
 
     is-back : (s : Sort) → Codes ls s w → is u (condName s) ≡ backs (nameOf v) w
-    unfolding is condName backs isCond
+    unfolding is condName backs isKind
     is-back = by-kind (λ s k. is u (condName s) ≡ (eqb k 2 && eqb (nameOf w) (nameOf v))) (λ u c. refl) same-name (λ t a. refl) refl refl refl refl refl
 
 -- ---- the tests of the passes on a coded row

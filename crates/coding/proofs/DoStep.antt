@@ -21,7 +21,7 @@ use Rattle.definition.proofs.SortLaws.{label-sort}
 use Rattle.definition.proofs.Fits.{Fits, Fit, fit-back}
 use Rattle.definition.proofs.Regions.{Backed, backed}
 use Rattle.outline.specs.Rows.{kindOf, indentOf, nameOf, lineOf, linesOf}
-use Rattle.outline.specs.Tests.{isLabel}
+use Rattle.outline.specs.Tests.{isKind, isLabel}
 use Rattle.outline.specs.Spans.{outside, reachedIn}
 use Rattle.outline.proofs.Moves.{indent-small}
 use Rattle.passes.specs.Regions.{backFrom, doGoalAt, doGoal, formedDo, headed, whiled}
@@ -162,7 +162,7 @@ module _ (ls : List Line) (l : ℕ) (R S : List ℕ) (n : ℕ) (H : Held ls l R 
       is-head = goal-head (isLabel w) (doGoalAt R S n k (backFrom n (nameOf w) (indentOf w + 1) R (k + 1) (n - (k + 1)))) n e
 
       kind-1 : kindOf w ≡ 1
-      unfolding isLabel
+      unfolding isKind
       kind-1 = eqb-true (kindOf w) 1 is-head
 
       -- it ends where the search did

@@ -20,7 +20,7 @@ use Rattle.definition.proofs.Bools.{by-test}
 use Rattle.definition.proofs.SortLaws.{cond-sort}
 use Rattle.definition.proofs.Fits.{Fits, fit-at}
 use Rattle.outline.specs.Rows.{kindOf, indentOf, nameOf, lineOf, linesOf}
-use Rattle.outline.specs.Tests.{isCond}
+use Rattle.outline.specs.Tests.{isKind, isCond}
 use Rattle.outline.specs.Spans.{reachedIn}
 use Rattle.passes.specs.Regions.{labelFrom, ifGoalAt, ifGoal, formedIf, opened, closeRow}
 use Rattle.passes.specs.Sweeps.{ifTried}
@@ -133,7 +133,7 @@ module _ (ls : List Line) (l : ℕ) (R S : List ℕ) (n : ℕ) (H : Held ls l R 
       is-cond = goal-head (isCond w) (ifGoalAt R S n k (labelFrom n (nameOf w) (indentOf w) R (k + 1) (n - (k + 1)))) n e
 
       kind-2 : kindOf w ≡ 2
-      unfolding isCond
+      unfolding isKind
       kind-2 = eqb-true (kindOf w) 2 is-cond
 
       open-sort : (o : Option (List ℕ)) → condName (sort (L w)) ≡ o → has o ≡ true → sortOf (openTokens (L w .toks)) ≡ ifOpen

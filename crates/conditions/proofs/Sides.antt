@@ -8,7 +8,7 @@ use Rattle.definition.specs.Tokens.{Token, keyword, punct}
 use Rattle.definition.specs.Condition.{signText, sideTokens, unsignedTokens, shownTokens}
 use Rattle.flags.specs.declared.comparison.Sign.{Sign}
 use Rattle.flags.specs.declared.comparison.Side.{Side}
-use Rattle.flags.specs.declared.comparison.Side.the-variants.{Left, Right, Difference, Both, Nought}
+use Rattle.flags.specs.declared.comparison.Side.the-variants.{Nought}
 use Rattle.flags.specs.declared.comparison.Shown.{Shown}
 use Rattle.room.specs.Room.{Room, emit, emitAll, seen}
 use Rattle.room.proofs.Laws.{next, more, one}
@@ -31,25 +31,12 @@ module _ (r r₀ : Room) (x y : List Token) (s : Side) where
   abbrev Written : Type 0
   Written = seen r ≡ seen (emitAll r₀ (sideTokens x y (viewSide s)))
 
-  pub left-put : s ≡ Left → seen r ≡ seen (emitAll r₀ x) → Written
-  unfolding sideTokens viewSide
-  left-put h e = rw h e
-
-  pub right-put : s ≡ Right → seen r ≡ seen (emitAll r₀ y) → Written
-  unfolding sideTokens viewSide
-  right-put h e = rw h e
-
-  pub difference-put : s ≡ Difference → seen r ≡ seen (emitAll r₀ (between x y (txt " - "))) → Written
-  unfolding sideTokens viewSide between
-  difference-put h e = rw h e
-
-  pub both-put : s ≡ Both → seen r ≡ seen (emitAll r₀ (between x y (txt " & "))) → Written
-  unfolding sideTokens viewSide between
-  both-put h e = rw h e
+  pub side-put : (z : Side) → s ≡ z → seen r ≡ seen (emitAll r₀ (sideTokens x y (viewSide z))) → Written
+  side-put z h e = rw h e
 
   pub nought-put : s ≡ Nought → r ≡ emit r₀ (punct (txt "0")) → Written
   unfolding sideTokens viewSide
-  nought-put h e = rw h (one r r₀ (punct (txt "0")) e)
+  nought-put h e = side-put Nought h (one r r₀ (punct (txt "0")) e)
 
 -- another sign, which it is
 pub sign-put : (r r₀ : Room) (s k : Sign) → s ≡ k → r ≡ emit r₀ (punct (signText (viewSign k))) → r ≡ emit r₀ (punct (signText (viewSign s)))

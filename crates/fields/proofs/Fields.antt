@@ -6,7 +6,7 @@ use Prim.Native.Nat.{ℕ, _+_, _<_}
 use native.Mathlib.Omega.{arith}
 use lib.Dec.{eqb, leb}
 use borrow.Author.Tests.{ne-eqb}
-use Rattle.definition.specs.Codes.{kAssign, kStore, kCall, kBranch, kFlags, kReturn, kOther}
+use Rattle.definition.specs.Codes.{kCall, kBranch, kReturn, kOther}
 use Rattle.definition.specs.Lists.{allBelow}
 use Rattle.definition.specs.Contents.{blockWord, phiWord, stmtWord, itemWord, exprWord}
 use Rattle.definition.specs.Owners.{stmtKind, stmtField, exprItems, items, firstItem}
@@ -60,22 +60,9 @@ module _ (w : ℕ → ℕ) where
   unfolding blankTail
   with-tail b x q = rw q (and-four b (eqb (w 3) 0) (eqb (w 4) 0) (eqb (w 5) 0) (eqb (w 6) 0))
 
-  pub assign-is : (x : Bool) → x ≡ blankTail w → x ≡ fieldsShaped kAssign w
-  unfolding fieldsShaped blankTail
-  assign-is x p = p
-
   pub headed-is : (most a : ℕ) (x : Bool) → a ≡ w 0 → x ≡ blankTail w → (leb a most && x) ≡ headed most w
   unfolding headed
   headed-is most a x p = rw p (with-tail (leb (w 0) most) x)
-
-  -- the kinds whose first field alone is not free
-  pub store-is : (x : Bool) → x ≡ headed 255 w → x ≡ fieldsShaped kStore w
-  unfolding fieldsShaped headed
-  store-is x p = p
-
-  pub flags-is : (x : Bool) → x ≡ headed 1 w → x ≡ fieldsShaped kFlags w
-  unfolding fieldsShaped headed
-  flags-is x p = p
 
   pub call-is : (a b c : ℕ) (x : Bool) → a ≡ w 3 → b ≡ w 4 → c ≡ w 5 → x ≡ optional a b c → x ≡ fieldsShaped kCall w
   unfolding fieldsShaped optional
@@ -126,17 +113,8 @@ unfolding stmtShaped
 stmt-is f i a x y p q r = rw (p, q, r)
 
 -- ---- expressions
-pub bin-is : (t a c d : ℕ) → t ≡ 3 → true ≡ tagShaped t a c d
-unfolding tagShaped
-bin-is t a c d p = rw p
-
-pub un-is : (t a c d : ℕ) → t ≡ 4 → eqb d 0 ≡ tagShaped t a c d
-unfolding tagShaped
-un-is t a c d p = rw p
-
-pub load-is : (t a c d : ℕ) → t ≡ 5 → (leb a 255 && eqb c 0 && eqb d 0) ≡ tagShaped t a c d
-unfolding tagShaped
-load-is t a c d p = rw p
+pub of-tag : (t a c d m : ℕ) (x : Bool) → t ≡ m → x ≡ tagShaped m a c d → x ≡ tagShaped t a c d
+of-tag t a c d m x e h = rw e h
 
 pub plain-is : (t a c d : ℕ) → (t ≡ 3 → ⊥) → (t ≡ 4 → ⊥) → (t ≡ 5 → ⊥)
     → ((eqb t 1 || eqb t 2 || eqb t 6) && eqb c 0 && eqb d 0) ≡ tagShaped t a c d

@@ -7,7 +7,6 @@ use native.Mathlib.Omega.{arith}
 use borrow.Author.Tests.{eq-eqb, ne-eqb}
 use Rattle.definition.specs.Lists.{range, at}
 use Rattle.definition.specs.Tokens.{Token, Line}
-use Rattle.definition.specs.Negate.{closeTokens, openTokens, doTokens, whileTokens}
 use Rattle.records.proofs.Ranges.{map-snoc}
 use Rattle.room.specs.declared.out.Out.{Out}
 use Rattle.room.specs.declared.out.At.the-variants.{Nowhere, Address}
@@ -50,27 +49,14 @@ module _ (ls : List ℕ) (w k : ℕ) (kind : k ≡ kindOf w) where
   unfolding rowAddress
   row-stands i x n e h = rw (← kind, ne-eqb k 6 n, ← e) h
 
--- ---- a row's tokens
+-- ---- a row's tokens, by its kind k
 module _ (r r₀ : Room) (k : ℕ) (ts : List Token) where
-  pub is-do : k ≡ 7 → seen r ≡ seen (emitAll r₀ doTokens) → seen r ≡ seen (emitAll r₀ (laterToks k ts))
-  unfolding laterToks
-  is-do e h = rw (eq-eqb k 7 e) h
-
-  pub is-while : (k ≡ 7 → ⊥) → k ≡ 8 → seen r ≡ seen (emitAll r₀ (whileTokens ts)) → seen r ≡ seen (emitAll r₀ (laterToks k ts))
-  unfolding laterToks
-  is-while n e h = rw (ne-eqb k 7 n, eq-eqb k 8 e) h
+  pub is-kind : (toks : ℕ → List Token → List Token) (m : ℕ) → k ≡ m → seen r ≡ seen (emitAll r₀ (toks m ts)) → seen r ≡ seen (emitAll r₀ (toks k ts))
+  is-kind toks m e h = rw e h
 
   pub is-plain : (k ≡ 7 → ⊥) → (k ≡ 8 → ⊥) → seen r ≡ seen (emitAll r₀ ts) → seen r ≡ seen (emitAll r₀ (laterToks k ts))
   unfolding laterToks
   is-plain n m h = rw (ne-eqb k 7 n, ne-eqb k 8 m) h
-
-  pub is-close : k ≡ 6 → seen r ≡ seen (emitAll r₀ closeTokens) → seen r ≡ seen (emitAll r₀ (kindToks k ts))
-  unfolding kindToks
-  is-close e h = rw (eq-eqb k 6 e) h
-
-  pub is-open : (k ≡ 6 → ⊥) → k ≡ 5 → seen r ≡ seen (emitAll r₀ (openTokens ts)) → seen r ≡ seen (emitAll r₀ (kindToks k ts))
-  unfolding kindToks
-  is-open n e h = rw (ne-eqb k 6 n, eq-eqb k 5 e) h
 
   pub is-later : (k ≡ 6 → ⊥) → (k ≡ 5 → ⊥) → seen r ≡ seen (emitAll r₀ (laterToks k ts)) → seen r ≡ seen (emitAll r₀ (kindToks k ts))
   unfolding kindToks

@@ -16,7 +16,7 @@ use Rattle.outline.specs.Tests.{isGoto}
 use Rattle.outline.specs.Spans.{lowOf, highOf, widened, noteRow, noteFrom, spansOf, outside, aimedOut}
 use Rattle.outline.specs.Forming.{nought, changedIn}
 use Rattle.outline.proofs.Along.{left-turn, left-end}
-use Rattle.outline.proofs.Verdicts.{label-is, label-not}
+use Rattle.outline.proofs.Verdicts.{kind-is, kind-not}
 use Rattle.outline.proofs.Moves.{all-clear}
 
 module _ (e i : ℕ) where
@@ -85,8 +85,8 @@ module _ (e a b : ℕ) where
 module _ (S : List ℕ) (a b w k : ℕ) (ek : k ≡ kindOf w) where
   pub aimed-other : (k ≡ 1 → ⊥) → false ≡ aimedOut S a b w
   unfolding aimedOut
-  aimed-other n = rw (label-not w (λ z. n (ek ∙ z)))
+  aimed-other n = rw (kind-not w 1 (λ z. n (ek ∙ z)))
 
   pub aimed-label : k ≡ 1 → (m e : ℕ) (q : Bool) → m ≡ nameOf w → e ≡ at S m → q ≡ outside e a b → q ≡ aimedOut S a b w
   unfolding aimedOut
-  aimed-label l m e q em ee h = h ∙ ap (λ (x : ℕ). outside x a b) (ee ∙ ap (at S) em) ∙ sym (rw (label-is w (sym ek ∙ l)))
+  aimed-label l m e q em ee h = h ∙ ap (λ (x : ℕ). outside x a b) (ee ∙ ap (at S) em) ∙ sym (rw (kind-is w 1 (sym ek ∙ l)))

@@ -6,24 +6,16 @@ use native.Mathlib.Omega.{arith}
 use borrow.Author.Tests.{eq-eqb, ne-eqb, lt-ltb, le-ltb}
 use lib.Dec.{eqb, leb}
 use Rattle.outline.specs.Rows.{kindOf, indentOf, nameOf}
-use Rattle.outline.specs.Tests.{isLabel, isCond, isGoto, labels, backs, stops, verdict, backVerdict, tooDeep}
+use Rattle.outline.specs.Tests.{isKind, isGoto, labels, backs, stops, verdict, backVerdict, tooDeep}
 
 module _ (w : ℕ) where
-  pub label-is : kindOf w ≡ 1 → isLabel w ≡ true
-  unfolding isLabel
-  label-is = eq-eqb (kindOf w) 1
+  pub kind-is : (k : ℕ) → kindOf w ≡ k → isKind k w ≡ true
+  unfolding isKind
+  kind-is k = eq-eqb (kindOf w) k
 
-  pub label-not : (kindOf w ≡ 1 → ⊥) → isLabel w ≡ false
-  unfolding isLabel
-  label-not = ne-eqb (kindOf w) 1
-
-  pub cond-is : kindOf w ≡ 2 → isCond w ≡ true
-  unfolding isCond
-  cond-is = eq-eqb (kindOf w) 2
-
-  pub cond-not : (kindOf w ≡ 2 → ⊥) → isCond w ≡ false
-  unfolding isCond
-  cond-not = ne-eqb (kindOf w) 2
+  pub kind-not : (k : ℕ) → (kindOf w ≡ k → ⊥) → isKind k w ≡ false
+  unfolding isKind
+  kind-not k = ne-eqb (kindOf w) k
 
   pub goto-cond : kindOf w ≡ 2 → true ≡ isGoto w
   unfolding isGoto
@@ -35,11 +27,11 @@ module _ (w : ℕ) where
 
   pub deep-label : (b : Bool) (k x : ℕ) → k ≡ kindOf w → x ≡ indentOf w → k ≡ 1 → b ≡ leb 254 x → b ≡ tooDeep w
   unfolding tooDeep
-  deep-label b k x e h l q = q ∙ ap (leb 254) h ∙ sym (ap (λ (z : Bool). cond z (leb 254 (indentOf w)) (leb 255 (indentOf w))) (label-is (sym e ∙ l)))
+  deep-label b k x e h l q = q ∙ ap (leb 254) h ∙ sym (ap (λ (z : Bool). cond z (leb 254 (indentOf w)) (leb 255 (indentOf w))) (kind-is 1 (sym e ∙ l)))
 
   pub deep-other : (b : Bool) (k x : ℕ) → k ≡ kindOf w → x ≡ indentOf w → (k ≡ 1 → ⊥) → b ≡ leb 255 x → b ≡ tooDeep w
   unfolding tooDeep
-  deep-other b k x e h l q = q ∙ ap (leb 255) h ∙ sym (ap (λ (z : Bool). cond z (leb 254 (indentOf w)) (leb 255 (indentOf w))) (label-not (λ z. l (e ∙ z))))
+  deep-other b k x e h l q = q ∙ ap (leb 255) h ∙ sym (ap (λ (z : Bool). cond z (leb 254 (indentOf w)) (leb 255 (indentOf w))) (kind-not 1 (λ z. l (e ∙ z))))
 
   -- ---- which rows end a search at depth d
   module _ (d x : ℕ) (ex : x ≡ indentOf w) where
@@ -58,14 +50,14 @@ module _ (w : ℕ) where
     module _ (k : ℕ) (ek : k ≡ kindOf w) where
       stops-other : x < d → (k ≡ 1 → ⊥) → stops d w ≡ true
       unfolding stops
-      stops-other h n = let a : indentOf w < d = omega arith in simp (label-not (λ z. n (ek ∙ z)), lt-ltb (indentOf w) d a)
+      stops-other h n = let a : indentOf w < d = omega arith in simp (kind-not 1 (λ z. n (ek ∙ z)), lt-ltb (indentOf w) d a)
 
       stops-label : x + 1 ≡ d → k ≡ 1 → stops d w ≡ false
       unfolding stops
       stops-label e l =
           let a : indentOf w < d = omega arith in
           let q : suc (indentOf w) ≡ d = omega arith in
-          simp (label-is (sym ek ∙ l), eq-eqb (suc (indentOf w)) d q, lt-ltb (indentOf w) d a)
+          simp (kind-is 1 (sym ek ∙ l), eq-eqb (suc (indentOf w)) d q, lt-ltb (indentOf w) d a)
 
   -- ---- the scan for a label
   module _ (m d x : ℕ) (ex : x ≡ indentOf w) where
@@ -83,14 +75,14 @@ module _ (w : ℕ) where
     module _ (e : x + 1 ≡ d) (k : ℕ) (ek : k ≡ kindOf w) where
       pub judge-other : (k ≡ 1 → ⊥) → 2 ≡ verdict m d w
       unfolding verdict labels
-      judge-other n = let h : x < d = omega arith in simp (label-not (λ z. n (ek ∙ z)), stops-other d x ex k ek h n)
+      judge-other n = let h : x < d = omega arith in simp (kind-not 1 (λ z. n (ek ∙ z)), stops-other d x ex k ek h n)
 
       module _ (l : k ≡ 1) (v : ℕ) (ev : v ≡ nameOf w) where
         pub judge-hit : v ≡ m → 1 ≡ verdict m d w
         unfolding verdict labels
         judge-hit h =
             let q : suc (indentOf w) ≡ d = omega arith in
-            simp (label-is (sym ek ∙ l), eq-eqb (nameOf w) m (sym ev ∙ h), eq-eqb (suc (indentOf w)) d q)
+            simp (kind-is 1 (sym ek ∙ l), eq-eqb (nameOf w) m (sym ev ∙ h), eq-eqb (suc (indentOf w)) d q)
 
         pub judge-label : (v ≡ m → ⊥) → 0 ≡ verdict m d w
         unfolding verdict labels
@@ -120,14 +112,14 @@ module _ (w : ℕ) where
       module _ (k : ℕ) (ek : k ≡ kindOf w) where
         pub back-other : (k ≡ 2 → ⊥) → 0 ≡ backVerdict m d w
         unfolding backVerdict backs
-        back-other n = simp (stops-in d x ex h, cond-not (λ z. n (ek ∙ z)), and-false)
+        back-other n = simp (stops-in d x ex h, kind-not 2 (λ z. n (ek ∙ z)), and-false)
 
         module _ (l : k ≡ 2) (v : ℕ) (ev : v ≡ nameOf w) where
           pub back-hit : x ≡ d → v ≡ m → 1 ≡ backVerdict m d w
           unfolding backVerdict backs
           back-hit e q =
               let i : indentOf w ≡ d = omega arith in
-              simp (stops-in d x ex h, cond-is (sym ek ∙ l), eq-eqb (indentOf w) d i, eq-eqb (nameOf w) m (sym ev ∙ q))
+              simp (stops-in d x ex h, kind-is 2 (sym ek ∙ l), eq-eqb (indentOf w) d i, eq-eqb (nameOf w) m (sym ev ∙ q))
 
           pub back-name : (v ≡ m → ⊥) → 0 ≡ backVerdict m d w
           unfolding backVerdict backs

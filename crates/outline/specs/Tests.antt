@@ -6,12 +6,15 @@ use lib.Dec.{eqb, ltb, leb}
 use Rattle.definition.specs.Lists.{at}
 use Rattle.outline.specs.Rows.{LABEL, COND, JUMP, kindOf, indentOf, nameOf}
 
--- a label; a conditional jump; any goto
-unfoldable pub isLabel : ℕ → Bool
-isLabel w = eqb (kindOf w) LABEL
+-- a row of kind k: a label; a conditional jump; any goto
+unfoldable pub isKind : ℕ → ℕ → Bool
+isKind k w = eqb (kindOf w) k
 
-unfoldable pub isCond : ℕ → Bool
-isCond w = eqb (kindOf w) COND
+abbrev pub isLabel : ℕ → Bool
+isLabel w = isKind LABEL w
+
+abbrev pub isCond : ℕ → Bool
+isCond w = isKind COND w
 
 unfoldable pub isGoto : ℕ → Bool
 isGoto w = eqb (kindOf w) COND || eqb (kindOf w) JUMP

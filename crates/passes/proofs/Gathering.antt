@@ -16,18 +16,18 @@ use Rattle.outline.specs.Rows.{kindOf}
 use Rattle.outline.specs.Spans.{spansOf, aimedOut}
 use Rattle.outline.specs.Forming.{nought, changedIn}
 use Rattle.outline.proofs.Along.{left-turn, left-end}
-use Rattle.outline.proofs.Verdicts.{label-is, label-not}
+use Rattle.outline.proofs.Verdicts.{kind-is, kind-not}
 use Rattle.outline.proofs.Moves.{zeros}
 use Rattle.passes.specs.Dropping.{keptRow, keptRows, Gathered, gathered, placed, gatherFrom, dropRows}
 
 module _ (S : List ℕ) (n w k : ℕ) (e : k ≡ kindOf w) where
   pub keep-other : (k ≡ 1 → ⊥) → true ≡ keptRow S n w
   unfolding keptRow
-  keep-other a = rw (label-not w (λ z. a (e ∙ z)))
+  keep-other a = rw (kind-not w 1 (λ z. a (e ∙ z)))
 
   pub keep-label : k ≡ 1 → (b : Bool) → b ≡ aimedOut S n n w → b ≡ keptRow S n w
   unfolding keptRow
-  keep-label a b h = h ∙ sym (ap (λ (q : Bool). not q || aimedOut S n n w) (label-is w (sym e ∙ a)))
+  keep-label a b h = h ∙ sym (ap (λ (q : Bool). not q || aimedOut S n n w) (kind-is w 1 (sym e ∙ a)))
 
 module _ (b : Bool) (R : List ℕ) (c w : ℕ) where
   pub place-yes : b ≡ true → gathered (c + 1) (set R c w) ≡ placed b R c w

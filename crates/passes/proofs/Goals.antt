@@ -11,7 +11,7 @@ use Rattle.definition.specs.Lists.{at}
 use Rattle.outline.specs.Rows.{kindOf, indentOf, nameOf}
 use Rattle.outline.specs.Tests.{isLabel, isCond, labels, backs, stops, verdict, backVerdict, along}
 use Rattle.outline.specs.Spans.{outside, reachedIn}
-use Rattle.outline.proofs.Verdicts.{label-is, label-not, cond-is, cond-not}
+use Rattle.outline.proofs.Verdicts.{kind-is, kind-not}
 use Rattle.outline.proofs.Along.{along-turn, along-end}
 use Rattle.passes.specs.Regions.{onward, labelFrom, latest, backFrom, ifGoalAt, ifGoal, doGoalAt, doGoal}
 
@@ -111,13 +111,13 @@ module _ (head : ℕ → Bool) (search : ℕ → ℕ → ℕ) (ends : ℕ → �
 module _ (R S : List ℕ) (n k w : ℕ) (e : w ≡ at R k) (t : ℕ) (et : t ≡ kindOf w) where
   pub if-no : (t ≡ 2 → ⊥) → n ≡ ifGoal R S n k
   unfolding ifGoal
-  if-no a = goal-no isCond (λ x y. labelFrom n x y R (k + 1) (n - (k + 1))) (ifGoalAt R S n k) n R k w e (cond-not w (λ z. a (et ∙ z)))
+  if-no a = goal-no isCond (λ x y. labelFrom n x y R (k + 1) (n - (k + 1))) (ifGoalAt R S n k) n R k w e (kind-not w 2 (λ z. a (et ∙ z)))
 
   module _ (a : t ≡ 2) (m d : ℕ) (em : m ≡ nameOf w) (ed : d ≡ indentOf w) (j : ℕ) (ej : j ≡ labelFrom n m d R (k + 1) (n - (k + 1))) where
     if-at : ifGoal R S n k ≡ ifGoalAt R S n k j
     unfolding ifGoal
     if-at =
-        goal-at isCond (λ x y. labelFrom n x y R (k + 1) (n - (k + 1))) (ifGoalAt R S n k) n R k w e (cond-is w (sym et ∙ a)) m d j em ed ej
+        goal-at isCond (λ x y. labelFrom n x y R (k + 1) (n - (k + 1))) (ifGoalAt R S n k) n R k w e (kind-is w 2 (sym et ∙ a)) m d j em ed ej
 
     pub if-none : j ≡ n → n ≡ ifGoal R S n k
     unfolding ifGoalAt
@@ -199,13 +199,13 @@ module _ (n m d : ℕ) (R : List ℕ) (j last : ℕ) where
 module _ (R S : List ℕ) (n k w : ℕ) (e : w ≡ at R k) (t : ℕ) (et : t ≡ kindOf w) where
   pub do-no : (t ≡ 1 → ⊥) → n ≡ doGoal R S n k
   unfolding doGoal
-  do-no a = goal-no isLabel (λ x y. backFrom n x (y + 1) R (k + 1) (n - (k + 1))) (doGoalAt R S n k) n R k w e (label-not w (λ z. a (et ∙ z)))
+  do-no a = goal-no isLabel (λ x y. backFrom n x (y + 1) R (k + 1) (n - (k + 1))) (doGoalAt R S n k) n R k w e (kind-not w 1 (λ z. a (et ∙ z)))
 
   module _ (a : t ≡ 1) (m x : ℕ) (em : m ≡ nameOf w) (ex : x ≡ indentOf w) (j : ℕ) (ej : j ≡ backFrom n m (x + 1) R (k + 1) (n - (k + 1))) where
     do-at : doGoal R S n k ≡ doGoalAt R S n k j
     unfolding doGoal
     do-at =
-        goal-at isLabel (λ x y. backFrom n x (y + 1) R (k + 1) (n - (k + 1))) (doGoalAt R S n k) n R k w e (label-is w (sym et ∙ a)) m x j em ex ej
+        goal-at isLabel (λ x y. backFrom n x (y + 1) R (k + 1) (n - (k + 1))) (doGoalAt R S n k) n R k w e (kind-is w 1 (sym et ∙ a)) m x j em ex ej
 
     pub do-none : j ≡ n → n ≡ doGoal R S n k
     unfolding doGoalAt

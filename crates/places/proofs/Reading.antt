@@ -88,22 +88,8 @@ item-register f i j first e r reg here a b h p =
 pub section-size : (f : List ℕ) (s t i : ℕ) → s ≡ t → i < size f s → i < size f t
 section-size f s t i e h = rw e at h
 
-module _ (f : List ℕ) (s i x : ℕ) where
-  pub of-args : s ≡ 0 → x ≡ argKey f i → x ≡ keyAt f s i
-  unfolding keyAt
-  of-args e h = rw e h
-
-  pub of-phis : s ≡ 2 → x ≡ phiKey f i → x ≡ keyAt f s i
-  unfolding keyAt
-  of-phis e h = rw e h
-
-  pub of-stmts : s ≡ 4 → x ≡ stmtKey f i → x ≡ keyAt f s i
-  unfolding keyAt
-  of-stmts e h = rw e h
-
-  pub of-exprs : s ≡ 6 → x ≡ exprKey f i → x ≡ keyAt f s i
-  unfolding keyAt
-  of-exprs e h = rw e h
+pub of-section : (f : List ℕ) (s i x t : ℕ) → s ≡ t → x ≡ keyAt f t i → x ≡ keyAt f s i
+of-section f s i x t e h = rw e h
 
 pub of-none : (f : List ℕ) (s i : ℕ) → (s ≡ 0 → ⊥) → (s ≡ 2 → ⊥) → (s ≡ 4 → ⊥) → (s ≡ 6 → ⊥) → 0 ≡ keyAt f s i
 unfolding keyAt

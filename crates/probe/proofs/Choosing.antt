@@ -2,34 +2,12 @@
 use mathlib.Core.Path.{_≡_}
 use Prim.Native.Nat.{ℕ}
 use borrow.Author.Tests.{ne-eqb}
-use Rattle.pieces.specs.declared.piece.Piece.the-variants.{Made, Global}
-use Rattle.pieces.specs.declared.piece.Made.the-variants.{Num, Slot, Label, Outward, Pointer, Register}
+use Rattle.pieces.specs.declared.piece.Piece.the-variants.{Global}
 use Rattle.probe.specs.Chosen.{pieceOf}
 
 module _ (which a b c : ℕ) where
-  pub a-num : which ≡ 0 → Made (Num a) ≡ pieceOf which a b c
-  unfolding pieceOf
-  a-num e = rw e
-
-  pub a-slot : which ≡ 1 → Made (Slot a) ≡ pieceOf which a b c
-  unfolding pieceOf
-  a-slot e = rw e
-
-  pub a-label : which ≡ 2 → Made (Label a) ≡ pieceOf which a b c
-  unfolding pieceOf
-  a-label e = rw e
-
-  pub an-outward : which ≡ 3 → Made (Outward a) ≡ pieceOf which a b c
-  unfolding pieceOf
-  an-outward e = rw e
-
-  pub a-pointer : which ≡ 4 → Made (Pointer b) ≡ pieceOf which a b c
-  unfolding pieceOf
-  a-pointer e = rw e
-
-  pub a-register : which ≡ 5 → Made (Register (record { bits = b; reg = c })) ≡ pieceOf which a b c
-  unfolding pieceOf
-  a-register e = rw e
+  pub a-piece : (n : ℕ) → which ≡ n → pieceOf n a b c ≡ pieceOf which a b c
+  a-piece n e = rw e
 
   pub a-global : (which ≡ 0 → ⊥) → (which ≡ 1 → ⊥) → (which ≡ 2 → ⊥) → (which ≡ 3 → ⊥) → (which ≡ 4 → ⊥) → (which ≡ 5 → ⊥)
       → Global (record { t = b; c = a; size = c }) ≡ pieceOf which a b c

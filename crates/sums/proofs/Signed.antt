@@ -43,13 +43,8 @@ module _ (s c : ℕ) where
   high more r m h q e = rw (le-ltb c half h) (e ∙ ap (moved (not more) s) q)
 
   module _ (o : ℕ) where
-    pub by-plus : (r : ℕ) → o ≡ 43 → r ≡ shifted true s c → r ≡ signedBy s o c
-    unfolding signedBy plus shifted moved
-    by-plus r e h = rw e h
-
-    pub by-minus : (r : ℕ) → o ≡ 45 → r ≡ shifted false s c → r ≡ signedBy s o c
-    unfolding signedBy minus shifted moved
-    by-minus r e h = rw e h
+    pub by-sign : (m r : ℕ) → o ≡ m → r ≡ signedBy s m c → r ≡ signedBy s o c
+    by-sign m r e h = rw e h
 
     pub by-none : (o ≡ 43 → ⊥) → (o ≡ 45 → ⊥) → 0 ≡ signedBy s o c
     unfolding signedBy

@@ -1,5 +1,8 @@
 -- By the kind that was read: the test of that kind answers, and a kind that is none of the seven is not right.
-use Rattle.fields.proofs.Fields.{assign-is, store-is, flags-is, of-kind, no-kind}
+use Rattle.definition.specs.Owners.{stmtField}
+use Rattle.definition.specs.Shape.{fieldsShaped}
+use Rattle.fields.specs.Fields.{blankTail, headed}
+use Rattle.fields.proofs.Fields.{of-kind, no-kind}
 use borrow.Author.Needs.{needs}
 use Rattle.fields.proofs.fields_shaped.Statement.{statement}
 use Rattle.fields.proofs.fields_shaped.Tie as tie
@@ -11,13 +14,15 @@ blank-tail-requires : tie.Need-blank-tail-requires
 blank-tail-requires c κs = search needs
 
 returns : tie.Need-returns
-returns c = of-kind _ _ _ _ _ (c .before .before .stmt-kind .ensures) (c .before .if1 .taken) (assign-is _ _ (c .blank-tail .ensures))
+unfolding fieldsShaped blankTail
+returns c = let a = c .before .before .before .before .args in of-kind (stmtField (a .f .now) (a .i)) _ 1 _ _ (c .before .before .stmt-kind .ensures) (c .before .if1 .taken) (c .blank-tail .ensures)
 
 headed-requires : tie.Need-headed-requires
 headed-requires c κs = search needs
 
 returns-2 : tie.Need-returns-2
-returns-2 c = of-kind _ _ _ _ _ (c .before .before .before .stmt-kind .ensures) (c .before .if2 .taken) (store-is _ _ (c .headed .ensures))
+unfolding fieldsShaped headed
+returns-2 c = let a = c .before .before .before .before .before .args in of-kind (stmtField (a .f .now) (a .i)) _ 2 _ _ (c .before .before .before .stmt-kind .ensures) (c .before .if2 .taken) (c .headed .ensures)
 
 call-shaped-requires : tie.Need-call-shaped-requires
 call-shaped-requires c κs = search needs
@@ -35,7 +40,8 @@ headed-requires-2 : tie.Need-headed-requires-2
 headed-requires-2 c κs = search needs
 
 returns-5 : tie.Need-returns-5
-returns-5 c = of-kind _ _ _ _ _ (c .before .before .before .before .before .before .stmt-kind .ensures) (c .before .if5 .taken) (flags-is _ _ (c .headed2 .ensures))
+unfolding fieldsShaped headed
+returns-5 c = let a = c .before .before .before .before .before .before .before .before .args in of-kind (stmtField (a .f .now) (a .i)) _ 5 _ _ (c .before .before .before .before .before .before .stmt-kind .ensures) (c .before .if5 .taken) (c .headed2 .ensures)
 
 return-shaped-requires : tie.Need-return-shaped-requires
 return-shaped-requires c κs = search needs

@@ -1,5 +1,8 @@
 -- By the five sides: an operand as it is, the difference and the conjunction in brackets around their sign, nought as the token 0.
-use Rattle.conditions.proofs.Sides.{left-put, right-put, difference-put, both-put, nought-put}
+use Rattle.definition.specs.Condition.{sideTokens}
+use Rattle.flags.specs.declared.comparison.Side.the-variants.{Left, Right, Difference, Both}
+use Rattle.conditions.specs.Printed.{viewSide, between}
+use Rattle.conditions.proofs.Sides.{side-put, nought-put}
 use borrow.Author.Needs.{needs}
 use Rattle.conditions.proofs.side.put_side.Statement.{statement}
 use Rattle.conditions.proofs.side.put_side.Tie as tie
@@ -50,7 +53,8 @@ same-length-2 : tie.Need-same-length-2
 same-length-2 c = search needs
 
 returns : tie.Need-returns
-returns c = λ E e. left-put _ _ _ _ _ (c .before .before .before .before .before .before .before .enum-told .given .1) (c .before .before .before .before .put-operand .ensures E e)
+unfolding sideTokens viewSide
+returns c = λ E e. side-put _ _ _ _ _ Left (c .before .before .before .before .before .before .before .enum-told .given .1) (c .before .before .before .before .put-operand .ensures E e)
 
 same-length-3 : tie.Need-same-length-3
 same-length-3 c = search needs
@@ -59,7 +63,8 @@ same-length-4 : tie.Need-same-length-4
 same-length-4 c = search needs
 
 returns-2 : tie.Need-returns-2
-returns-2 c = λ E e. right-put _ _ _ _ _ (c .before .before .before .before .before .before .before .enum-told2 .given .1) (c .before .before .before .before .put-operand2 .ensures E e)
+unfolding sideTokens viewSide
+returns-2 c = λ E e. side-put _ _ _ _ _ Right (c .before .before .before .before .before .before .before .enum-told2 .given .1) (c .before .before .before .before .put-operand2 .ensures E e)
 
 same-length-5 : tie.Need-same-length-5
 same-length-5 c = search needs
@@ -68,7 +73,8 @@ same-length-6 : tie.Need-same-length-6
 same-length-6 c = search needs
 
 returns-3 : tie.Need-returns-3
-returns-3 c = λ E e. difference-put _ _ _ _ _ (c .before .before .before .before .before .before .before .before .enum-told3 .given .1) (c .before .before .before .before .put-between .ensures E e)
+unfolding sideTokens viewSide between
+returns-3 c = λ E e. side-put _ _ _ _ _ Difference (c .before .before .before .before .before .before .before .before .enum-told3 .given .1) (c .before .before .before .before .put-between .ensures E e)
 
 same-length-7 : tie.Need-same-length-7
 same-length-7 c = search needs
@@ -77,7 +83,8 @@ same-length-8 : tie.Need-same-length-8
 same-length-8 c = search needs
 
 returns-4 : tie.Need-returns-4
-returns-4 c = λ E e. both-put _ _ _ _ _ (c .before .before .before .before .before .before .before .before .enum-told4 .given .1) (c .before .before .before .before .put-between2 .ensures E e)
+unfolding sideTokens viewSide between
+returns-4 c = λ E e. side-put _ _ _ _ _ Both (c .before .before .before .before .before .before .before .before .enum-told4 .given .1) (c .before .before .before .before .put-between2 .ensures E e)
 
 same-length-9 : tie.Need-same-length-9
 same-length-9 c = search needs

@@ -1,5 +1,6 @@
 -- By the kind, as the definition tests it: 7 puts `do {`, 8 puts `} while (C);`, any other the lowered line as it is.
-use Rattle.finish.proofs.Written.{is-do, is-while, is-plain}
+use Rattle.finish.specs.Finishing.{laterToks}
+use Rattle.finish.proofs.Written.{is-kind, is-plain}
 use borrow.Author.Needs.{needs}
 use Rattle.finish.proofs.kinds.put_later.Statement.{statement}
 use Rattle.finish.proofs.kinds.put_later.Tie as tie
@@ -14,7 +15,8 @@ same-length-2 : tie.Need-same-length-2
 same-length-2 c = search needs
 
 returns : tie.Need-returns
-returns c = is-do _ _ _ _ (c .before .before .before .before .before .before .before .if1 .taken) (c .before .before .before .before .put-do .ensures)
+unfolding laterToks
+returns c = is-kind _ _ _ _ laterToks 7 (c .before .before .before .before .before .before .before .if1 .taken) (c .before .before .before .before .put-do .ensures)
 
 put-while-requires : tie.Need-put-while-requires
 put-while-requires c κs = search needs
@@ -26,7 +28,8 @@ same-length-4 : tie.Need-same-length-4
 same-length-4 c = search needs
 
 returns-2 : tie.Need-returns-2
-returns-2 c = is-while _ _ _ _ (c .before .before .before .before .before .before .before .before .if1 .left) (c .before .before .before .before .before .before .before .if2 .taken) (c .before .before .before .before .put-while .ensures)
+unfolding laterToks
+returns-2 c = is-kind _ _ _ _ laterToks 8 (c .before .before .before .before .before .before .before .if2 .taken) (c .before .before .before .before .put-while .ensures)
 
 put-line-requires : tie.Need-put-line-requires
 put-line-requires c κs = search needs

@@ -1,5 +1,6 @@
 -- By the kind: 6 puts `}`, 5 the head of an if, whose tokens' ends rise as the caller promises, and any other what the later kinds put.
-use Rattle.finish.proofs.Written.{is-close, is-open, is-later}
+use Rattle.finish.specs.Finishing.{kindToks}
+use Rattle.finish.proofs.Written.{is-kind, is-later}
 use borrow.Author.Needs.{needs}
 use Rattle.finish.proofs.kinds.put_row.Statement.{statement}
 use Rattle.finish.proofs.kinds.put_row.Tie as tie
@@ -14,7 +15,8 @@ same-length-2 : tie.Need-same-length-2
 same-length-2 c = search needs
 
 returns : tie.Need-returns
-returns c = is-close _ _ _ _ (c .before .before .before .before .before .before .before .if1 .taken) (c .before .before .before .before .put-close .ensures)
+unfolding kindToks
+returns c = is-kind _ _ _ _ kindToks 6 (c .before .before .before .before .before .before .before .if1 .taken) (c .before .before .before .before .put-close .ensures)
 
 put-open-requires : tie.Need-put-open-requires
 put-open-requires c κs = c .before .before .before .before .before .before .before .before .pre .rises (c .before .before .if2 .taken)
@@ -26,7 +28,8 @@ same-length-4 : tie.Need-same-length-4
 same-length-4 c = search needs
 
 returns-2 : tie.Need-returns-2
-returns-2 c = is-open _ _ _ _ (c .before .before .before .before .before .before .before .before .if1 .left) (c .before .before .before .before .before .before .before .if2 .taken) (c .before .before .before .before .put-open .ensures)
+unfolding kindToks
+returns-2 c = is-kind _ _ _ _ kindToks 5 (c .before .before .before .before .before .before .before .if2 .taken) (c .before .before .before .before .put-open .ensures)
 
 put-later-requires : tie.Need-put-later-requires
 put-later-requires c κs = search needs
