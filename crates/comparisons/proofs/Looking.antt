@@ -20,41 +20,23 @@ use Rattle.clips.specs.declared.clip.Clip.{Clip}
 use Rattle.clips.specs.Clip.{clipFrom, clipTo, clipAt, Orderly}
 use Rattle.clips.proofs.Clips.{from-first, clip-chain}
 use Rattle.comparisons.specs.declared.looks.Look.{Look}
-use Rattle.comparisons.specs.Looks.{opened, shut, marked, unseen, stepped, looked, Within}
+use Rattle.comparisons.specs.Looks.{counted, opened, shut, marked, unseen, stepped, looked, Within}
 
 -- ---- a token
--- the bytes b of a Punct, counted on from o
-abbrev counted : ℕ → ℕ → Token → ℕ
-counted b o u = cond (eqb (u .kind) 6) (o + count (eqb b) (u .text)) o
-
 module _ (u : Token) (b : ℕ) where
   counted-punct : (o : ℕ) → u .kind ≡ 6 → counted b o u ≡ o + count (eqb b) (u .text)
+  unfolding counted
   counted-punct o e = rw (eq-eqb (u .kind) 6 e)
 
   counted-most : (o : ℕ) → counted b o u ≤ o + length (u .text)
+  unfolding counted
   counted-most o = by-cond (λ n. n ≤ o + length (u .text)) (eqb (u .kind) 6) (λ e. omega (arith, count-length (eqb b) (u .text))) (λ e. omega arith)
 
-  counted-none : u .text ≡ [] → (o : ℕ) → counted b o u ≡ o
-  unfolding count
+  pub counted-none : u .text ≡ [] → (o : ℕ) → counted b o u ≡ o
+  unfolding counted count
   counted-none none o = by-cond (λ n. n ≡ o) (eqb (u .kind) 6) (λ e. ap (λ (s : List ℕ). o + count (eqb b) s) none ∙ omega arith) (λ e. refl)
 
 module _ (u : Token) where
-  opened-most : (o : ℕ) → opened o u ≤ o + length (u .text)
-  unfolding opened
-  opened-most = counted-most u 40
-
-  shut-most : (c : ℕ) → shut c u ≤ c + length (u .text)
-  unfolding shut
-  shut-most = counted-most u 41
-
-  pub opened-none : u .text ≡ [] → (o : ℕ) → opened o u ≡ o
-  unfolding opened
-  opened-none = counted-none u 40
-
-  pub shut-none : u .text ≡ [] → (c : ℕ) → shut c u ≡ c
-  unfolding shut
-  shut-none = counted-none u 41
-
   marked-punct : (o c : ℕ) → u .kind ≡ 6 → marked o c u ≡ (eqb (opened o u) (shut c u) && compares (u .text))
   unfolding marked
   marked-punct o c e = rw (eq-eqb (u .kind) 6 e)
@@ -74,18 +56,15 @@ module _ (l : Look) (k : ℕ) (u : Token) where
       go true = refl
       go false = omega arith
 
-  step-opens : stepped l k u .opens ≡ opened (l .opens) u
+  -- the parentheses behind it
+  step-counts : (stepped l k u .opens ≡ opened (l .opens) u) × (stepped l k u .closes ≡ shut (l .closes) u)
   unfolding stepped
-  step-opens = refl
-
-  step-closes : stepped l k u .closes ≡ shut (l .closes) u
-  unfolding stepped
-  step-closes = refl
+  step-counts = (refl, refl)
 
 -- ---- the code's steps
 module _ (ks t : List ℕ) (c : Clip) (k : ℕ) (l : Look) where
   pub step-other : (x : ℕ) → x ≡ kindAt ks (c .first + k) → (x ≡ 6 → ⊥) → l ≡ stepped l k (clipAt ks t c k)
-  unfolding stepped opened shut marked clipAt
+  unfolding stepped counted marked clipAt
   step-other x e n = rw (← e, ne-eqb x 6 n)
 
   module _ (x f e n m : ℕ) (kind : x ≡ kindAt ks (c .first + k)) (six : x ≡ 6) (from : f ≡ clipFrom ks c k) (to : e ≡ clipTo ks c k)
@@ -104,28 +83,20 @@ module _ (ks t : List ℕ) (c : Clip) (k : ℕ) (l : Look) where
     u-counted : (b o i : ℕ) → i ≡ count (eqb b) (between t f e) → counted b o u ≡ o + i
     u-counted b o i q = counted-punct u b o u-kind ∙ ap (λ (s : List ℕ). o + count (eqb b) s) u-text ∙ ap (λ (z : ℕ). o + z) (sym q)
 
-    u-opens : opened (l .opens) u ≡ l .opens + n
-    unfolding opened
-    u-opens = u-counted 40 (l .opens) n opens
-
-    u-closes : shut (l .closes) u ≡ l .closes + m
-    unfolding shut
-    u-closes = u-counted 41 (l .closes) m closes
-
     u-marked : marked (l .opens) (l .closes) u ≡ (eqb (l .opens + n) (l .closes + m) && compares (between t f e))
-    u-marked = marked-punct u (l .opens) (l .closes) u-kind ∙ rw (u-opens, u-closes, u-text)
+    u-marked = marked-punct u (l .opens) (l .closes) u-kind ∙ rw (u-counted 40 (l .opens) n opens, u-counted 41 (l .closes) m closes, u-text)
 
     pub step-hit : (b : Bool) → l .opens + n ≡ l .closes + m → b ≡ compares (between t f e) → b ≡ true
         → record { opens = l .opens + n; closes = l .closes + m; hits = l .hits + 1; place = k } ≡ stepped l k u
-    step-hit b h p z = step-is l k u (l .opens + n) (l .closes + m) true u-opens u-closes (u-marked ∙ rw (eq-eqb (l .opens + n) (l .closes + m) h, ← p, z))
+    step-hit b h p z = step-is l k u (l .opens + n) (l .closes + m) true (u-counted 40 (l .opens) n opens) (u-counted 41 (l .closes) m closes) (u-marked ∙ rw (eq-eqb (l .opens + n) (l .closes + m) h, ← p, z))
 
     pub step-dull : (b : Bool) → l .opens + n ≡ l .closes + m → b ≡ compares (between t f e) → b ≡ false
         → record { opens = l .opens + n; closes = l .closes + m; hits = l .hits; place = l .place } ≡ stepped l k u
-    step-dull b h p z = step-is l k u (l .opens + n) (l .closes + m) false u-opens u-closes (u-marked ∙ rw (eq-eqb (l .opens + n) (l .closes + m) h, ← p, z))
+    step-dull b h p z = step-is l k u (l .opens + n) (l .closes + m) false (u-counted 40 (l .opens) n opens) (u-counted 41 (l .closes) m closes) (u-marked ∙ rw (eq-eqb (l .opens + n) (l .closes + m) h, ← p, z))
 
     pub step-inside : (l .opens + n ≡ l .closes + m → ⊥)
         → record { opens = l .opens + n; closes = l .closes + m; hits = l .hits; place = l .place } ≡ stepped l k u
-    step-inside h = step-is l k u (l .opens + n) (l .closes + m) false u-opens u-closes (u-marked ∙ rw (ne-eqb (l .opens + n) (l .closes + m) h))
+    step-inside h = step-is l k u (l .opens + n) (l .closes + m) false (u-counted 40 (l .opens) n opens) (u-counted 41 (l .closes) m closes) (u-marked ∙ rw (ne-eqb (l .opens + n) (l .closes + m) h))
 
 -- ---- the parentheses can be counted
 module _ (ks t : List ℕ) (c : Clip) where
@@ -158,8 +129,8 @@ module _ (ks t : List ℕ) (c : Clip) where
       let e = clip-chain ks c k g h in
       let r = w .rises in
       record {
-        opens = omega (arith, step-opens l k u, opened-most u (l .opens), w .opens);
-        closes = omega (arith, step-closes l k u, shut-most u (l .closes), w .closes);
+        opens = omega (arith, step-counts l k u .0, counted-most u 40 (l .opens), w .opens);
+        closes = omega (arith, step-counts l k u .1, counted-most u 41 (l .closes), w .closes);
         hits = omega (arith, step-hits l k u, bit-le (marked (l .opens) (l .closes) u), w .hits);
         rises = o .each (k + 1) (omega arith) h;
       }

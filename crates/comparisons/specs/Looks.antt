@@ -29,12 +29,15 @@ pub record Stands (w t : List ℕ) (from to : ℕ) : Type 0 where
   pub some : 0 < length w
   pub inside : contains w (between t from to) ≡ true
 
--- the parentheses behind a token, of those before it: only a Punct's count
-unfoldable pub opened : ℕ → Token → ℕ
-opened o u = cond (eqb (u .kind) 6) (o + count (eqb 40) (u .text)) o
+-- the bytes b behind a token, counted on from n: only a Punct's count. Opening parentheses, and closing ones
+unfoldable pub counted : ℕ → ℕ → Token → ℕ
+counted b n u = cond (eqb (u .kind) 6) (n + count (eqb b) (u .text)) n
 
-unfoldable pub shut : ℕ → Token → ℕ
-shut c u = cond (eqb (u .kind) 6) (c + count (eqb 41) (u .text)) c
+abbrev pub opened : ℕ → Token → ℕ
+opened o u = counted 40 o u
+
+abbrev pub shut : ℕ → Token → ℕ
+shut c u = counted 41 c u
 
 -- is it a Punct with a comparison, at depth 0 behind it
 unfoldable pub marked : ℕ → ℕ → Token → Bool

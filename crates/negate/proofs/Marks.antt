@@ -18,8 +18,8 @@ use Rattle.clips.specs.declared.clip.Clip.{Clip}
 use Rattle.clips.specs.Clip.{clipAt, hasText, texts, clip, Orderly}
 use Rattle.clips.proofs.Clips.{text-none}
 use Rattle.comparisons.specs.declared.looks.Look.{Look}
-use Rattle.comparisons.specs.Looks.{opened, shut, marked, unseen, stepped, looked}
-use Rattle.comparisons.proofs.Looking.{step-hits, opened-none, shut-none}
+use Rattle.comparisons.specs.Looks.{counted, opened, shut, marked, unseen, stepped, looked}
+use Rattle.comparisons.proofs.Looking.{step-hits, counted-none}
 use Rattle.negate.specs.Flipping.{flipOf, flipped}
 
 abbrev marks : List Bool → ℕ
@@ -43,7 +43,7 @@ module _ (u : Token) where
         go false q = refl
 
   comparisons-cons : (o c : ℕ) (us : List Token) → comparisons o c (u ∷ us) ≡ marked o c u ∷ comparisons (opened o u) (shut c u) us
-  unfolding comparisons marked opened shut
+  unfolding comparisons marked counted
   comparisons-cons o c us = go (o + count (eqb 40) (u .text)) (c + count (eqb 41) (u .text)) (eqb (u .kind) 6)
     where
       go : (o′ c′ : ℕ) (b : Bool) → cond b ((eqb o′ c′ && compares (u .text)) ∷ comparisons o′ c′ us) (false ∷ comparisons o c us)
@@ -156,8 +156,8 @@ marks-texts (u ∷ us) o c =
     (λ e. omega (arith, marks-cons u o c (only hasText us)))
     (λ e.
     let n = text-none u e in
-    let j : marks (comparisons o c (only hasText us)) ≡ marks (comparisons o c us) = rw (opened-none u n o, shut-none u n c) at i in
-    let k : marks (comparisons (opened o u) (shut c u) us) ≡ marks (comparisons o c us) = rw (opened-none u n o, shut-none u n c) in
+    let j : marks (comparisons o c (only hasText us)) ≡ marks (comparisons o c us) = rw (counted-none u 40 n o, counted-none u 41 n c) at i in
+    let k : marks (comparisons (opened o u) (shut c u) us) ≡ marks (comparisons o c us) = rw (counted-none u 40 n o, counted-none u 41 n c) in
     omega (arith, ap bit (marked-none u n o c)))
 
 flip-cons : (u : Token) (us : List Token) (o c : ℕ) (b : Bool) → marked o c u ≡ b
@@ -184,8 +184,8 @@ flip-texts (u ∷ us) o c =
     (λ m. flip-cons u (only hasText us) o c false m ∙ ap (λ (z : List Token). u ∷ z) i ∙ sym (ap (only hasText) (flip-cons u us o c false m) ∙ only-cons u rest true h)))
     (λ h.
     let n = text-none u h in
-    let j : flipAt (comparisons o c (only hasText us)) (only hasText us) ≡ only hasText (flipAt (comparisons o c us) us) = rw (opened-none u n o, shut-none u n c) at i in
-    let k : flipAt (comparisons o c us) us ≡ flipAt (comparisons (opened o u) (shut c u) us) us = rw (opened-none u n o, shut-none u n c) in
+    let j : flipAt (comparisons o c (only hasText us)) (only hasText us) ≡ only hasText (flipAt (comparisons o c us) us) = rw (counted-none u 40 n o, counted-none u 41 n c) at i in
+    let k : flipAt (comparisons o c us) us ≡ flipAt (comparisons (opened o u) (shut c u) us) us = rw (counted-none u 40 n o, counted-none u 41 n c) in
     ap (λ (z : List Token). flipAt (comparisons o c z) z) (only-cons u us false h) ∙ j ∙ ap (only hasText) k
     ∙ sym (ap (only hasText) (flip-cons u us o c false (marked-none u n o c)) ∙ only-cons u rest false h))
 
