@@ -15,6 +15,15 @@ use Rattle.definition.specs.Passes.Passed.{done, tooDeep}
 use Rattle.definition.proofs.Regions.{Try}
 use Rattle.definition.proofs.Steps.{by-formed, pass-none, pass-deep, pass-on}
 
+-- what a scan found, changed by g; it stays where g changes nothing
+abbrev pub changed : {A : Type 0} → (A → A) → Option A → Option A
+changed g none = none
+changed g (some x) = some (g x)
+
+pub changed-not : {A : Type 0} (g : A → A) → ((x : A) → x ≡ g x) → (r : Option A) → r ≡ changed g r
+changed-not g same none = refl
+changed-not g same (some x) = ap some (same x)
+
 unfoldable pub tryAt : Try → List Line → List Line → Option Formed
 tryAt try pre [] = none
 tryAt try pre (l ∷ xs) = try pre l xs

@@ -26,7 +26,7 @@ use Rattle.definition.proofs.Stops.{stops-not, stops-plain, label-runs,
 use Rattle.definition.proofs.Counts.{do-lines, do-conds, do-labels, do-aims}
 use Rattle.definition.proofs.Plain.{Distinct, Good}
 use Rattle.definition.proofs.Reach.{Reach, reach-of, of-reach}
-use Rattle.definition.proofs.Sweep.{Goes, sweep, pass-is-sweep}
+use Rattle.definition.proofs.Sweep.{changed, changed-not, Goes, sweep, pass-is-sweep}
 
 no-edge : (t : List ℕ) (d : ℕ) (x : Line) (s : Sort) → sort x ≡ s → condName s ≡ none → edge t d x ≡ false
 unfolding backs is
@@ -38,12 +38,7 @@ abbrev Idle : List ℕ → ℕ → List Line → Type 0
 Idle t d xs = Each (λ x. (stops d x ≡ false) × (edge t d x ≡ false)) xs
 
 abbrev addBack : List Line → Option Back → Option Back
-addBack xs none = none
-addBack xs (some c) = some (record { mid = xs ++ c .mid; back = c .back; post = c .post })
-
-add-nil : (r : Option Back) → r ≡ addBack [] r
-add-nil none = refl
-add-nil (some c) = refl
+addBack xs = changed (λ c. record { mid = xs ++ c .mid; back = c .back; post = c .post })
 
 add-cons : (x : Line) (xs zs : List Line) (r : Option Back) → backAt false false x zs (addBack xs r) ≡ addBack (x ∷ xs) r
 unfolding backAt
@@ -52,7 +47,7 @@ add-cons x xs zs (some c) = refl
 
 idle-back : (t : List ℕ) (d : ℕ) (xs zs : List Line) → Idle t d xs → lastBack t d (xs ++ zs) ≡ addBack xs (lastBack t d zs)
 unfolding lastBack
-idle-back t d [] zs h = add-nil (lastBack t d zs)
+idle-back t d [] zs h = changed-not _ (λ c. refl) (lastBack t d zs)
 idle-back t d (x ∷ xs) zs (c ▸ h) =
     ap₂ (λ (a b : Bool). backAt a b x (xs ++ zs) (lastBack t d (xs ++ zs))) (c .0) (c .1)
     ∙ ap (backAt false false x (xs ++ zs)) (idle-back t d xs zs h) ∙ add-cons x xs (xs ++ zs) (lastBack t d zs)

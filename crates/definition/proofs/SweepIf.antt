@@ -24,19 +24,14 @@ use Rattle.definition.proofs.Stops.{stops-not, stops-plain, depth, shal
 use Rattle.definition.proofs.Counts.{if-lines, if-conds, if-labels, if-aims}
 use Rattle.definition.proofs.Plain.{Distinct, Good}
 use Rattle.definition.proofs.Reach.{Reach, reach-of, of-reach}
-use Rattle.definition.proofs.Sweep.{Goes, sweep, pass-is-sweep}
+use Rattle.definition.proofs.Sweep.{changed, changed-not, Goes, sweep, pass-is-sweep}
 
 -- ---- a run of lines that a scan passes
 abbrev Clear : List ℕ → ℕ → List Line → Type 0
 Clear t d xs = Each (λ x. (hits t d x ≡ false) × (stops d x ≡ false)) xs
 
 abbrev addCut : List Line → Option Cut → Option Cut
-addCut xs none = none
-addCut xs (some c) = some (record { mid = xs ++ c .mid; post = c .post })
-
-add-nil : (r : Option Cut) → r ≡ addCut [] r
-add-nil none = refl
-add-nil (some c) = refl
+addCut xs = changed (λ c. record { mid = xs ++ c .mid; post = c .post })
 
 add-cons : (x : Line) (xs : List Line) (r : Option Cut) → consCut x (addCut xs r) ≡ addCut (x ∷ xs) r
 unfolding consCut
@@ -45,7 +40,7 @@ add-cons x xs (some c) = refl
 
 scan-clear : (t : List ℕ) (d : ℕ) (xs zs : List Line) → Clear t d xs → scan t d (xs ++ zs) ≡ addCut xs (scan t d zs)
 unfolding scan scanAt
-scan-clear t d [] zs h = add-nil (scan t d zs)
+scan-clear t d [] zs h = changed-not _ (λ c. refl) (scan t d zs)
 scan-clear t d (x ∷ xs) zs (c ▸ h) =
     ap₂ (λ (a b : Bool). scanAt a b x (xs ++ zs) (scan t d (xs ++ zs))) (c .0) (c .1)
     ∙ ap (consCut x) (scan-clear t d xs zs h) ∙ add-cons x xs (scan t d zs)
