@@ -5,7 +5,7 @@ use Prim.Native.Nat.{ℕ}
 use Rattle.definition.specs.Numbers.{decimal}
 use Rattle.digits.specs.declared.Radix.the-variants.{Decimal}
 use Rattle.digits.specs.Numeral.{numeral}
-use Rattle.digits.proofs.Texts.{decimal-is}
+use Rattle.digits.proofs.Texts.{numeral-is}
 use Rattle.leaf.specs.declared.Wrote.{Wrote}
 use Rattle.leaf.specs.Leaf.{Leaf}
 use Rattle.leaf.proofs.Leaves.{leaf-as}
@@ -15,4 +15,4 @@ spells g p q x d r e is wrote says = leaf-as wrote (says ∙ ap g (sym is))
 
 -- a front and a number, as the definition has it
 pub counted-is : (front : List ℕ) (k : ℕ) → front ++ numeral Decimal k ≡ front ++ decimal k
-counted-is front k = ap (λ (l : List ℕ). front ++ l) (decimal-is k)
+counted-is front k = ap (λ (l : List ℕ). front ++ l) (numeral-is Decimal k)

@@ -8,11 +8,11 @@ use Rattle.definition.specs.Numbers.{HEX}
 use Rattle.definition.specs.Lookup.{sizePrefix}
 use Rattle.digits.specs.declared.Radix.the-variants.{Upper}
 use Rattle.digits.specs.Numeral.{numeral}
-use Rattle.digits.proofs.Texts.{HEX-is}
+use Rattle.digits.proofs.Texts.{numeral-is}
 
 module _ (n c : ℕ) where
   prefixed : (t : List ℕ) → t ≡ sizePrefix n → t ++ numeral Upper c ≡ sizePrefix n ++ HEX c
-  prefixed t e = rw (e, HEX-is c)
+  prefixed t e = rw (e, numeral-is Upper c)
 
   pub byte-is : n ≡ 1 → txt "byte_" ++ numeral Upper c ≡ sizePrefix n ++ HEX c
   unfolding sizePrefix
