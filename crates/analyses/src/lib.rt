@@ -1,4 +1,6 @@
 // Runs the analyses in order over lent tables: the numbers of values, who reads them, and the variables with their names.
+#![tactic(auto)]
+
 ghost use Rattle.std.specs.Prelude.{length};
 ghost use Rattle.analyses.specs.Tables.{Unnumbered, Valued, Before, ReadAs, Shared, Unplaced, Placed, Nameable, Nameless, Named};
 

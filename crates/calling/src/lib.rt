@@ -1,4 +1,6 @@
 // The line of a Call.
+#![tactic(auto)]
+
 mod args;
 pub mod call;
 mod callee;

@@ -10,7 +10,7 @@ use words::part_size;
 // 2^60: from there on no digit fits behind a number.
 const MOST: u64 = 0x1000_0000_0000_0000;
 
-#[derive(Drop)]
+#[derive(Clone, Copy)]
 pub enum Hex {
     Value(u64),
     None,

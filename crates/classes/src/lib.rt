@@ -1,5 +1,7 @@
 // Out of SSA: a phi and its inputs are one variable, dead phis too; RSP's make none. A table says of each value, by number, the number of its class's
 // root, the least value of it.
+#![tactic(auto)]
+
 ghost use Rattle.std.specs.Prelude.{◌≡◌, ◌+◌, ◌≤◌, ◌<◌, eqb, length};
 ghost use Rattle.definition.specs.Edition.{Edition, phis};
 ghost use Rattle.definition.specs.Contents.{size};

@@ -143,7 +143,9 @@ module _ (ks t : List ℕ) where
         ap (λ (u : Token). u ∷ []) (last_is k h (omega arith) (rw p at d))
     behind_is (suc j) k h g d =
         let p : a + k + 1 ≡ a + (k + 1) = omega arith in
-        ap₂ ◌∷◌ (between_is k h (omega arith)) (rw p (behind_is j (k + 1) (omega arith) (omega arith) d))
+        ap₂ ◌∷◌ (between_is k h (omega arith)) (
+        subst (λ (x : ℕ). cut_last (map (token_at ks t) (range x (suc j))) ≡ map (clip_at ks t C) (range (k + 1) (suc j))) (sym p)
+        (behind_is j (k + 1) (omega arith) (omega arith) d))
 
     trimmed_is : (j : ℕ) → suc (suc j) ≡ m → Opened t (start_at ks (a + 1)) (end_at ks (a + 1)) f → Closed t (clip_from ks C (m - 1)) (end_at ks (a + (m - 1))) e
         → cut_last (trim_first (tail (map (token_at ks t) (range a (suc (suc j)))))) ≡ map (clip_at ks t C) (range 1 (suc j))
@@ -154,7 +156,9 @@ module _ (ks t : List ℕ) where
     trimmed_is (suc i) g o d =
         let p : a + 1 + 1 ≡ a + 2 = omega arith in
         let q = subst (λ s. Closed t s (end_at ks (a + (m - 1))) e) (sym (from_other ks C (m - 1) (start_at ks (a + (m - 1))) (λ z. omega arith) refl)) d in
-        ap₂ ◌∷◌ (first_is_lem (omega arith) o) (rw p (behind_is i 2 (omega arith) (omega arith) q))
+        ap₂ ◌∷◌ (first_is_lem (omega arith) o) (
+        subst (λ (x : ℕ). cut_last (map (token_at ks t) (range x (suc i))) ≡ map (clip_at ks t C) (range 2 (suc i))) (sym p)
+        (behind_is i 2 (omega arith) (omega arith) q))
 
   module _ (a n m : ℕ) (before : m ≡ length (before_goto (tokens_in ks t a n))) where
     -- the tokens before `goto`, trimmed

@@ -11,7 +11,7 @@ use sheet::ranges::{begins_between, is_between, least};
 use sheet::tokens::{end_at, place, start_at, token_is};
 
 // The tokens at the places 1 to `count` - 1 behind `first`.
-#[derive(Drop)]
+#[derive(Clone, Copy)]
 pub struct Clip {
     pub first: usize,
     pub count: usize,

@@ -11,7 +11,7 @@ use sheet::tokens::{kind_at, place};
 const PUNCT: u32 = 6;
 
 // What the tokens up to one say.
-#[derive(Drop)]
+#[derive(Clone, Copy)]
 pub struct Look {
     // The parentheses in them.
     pub opens: usize,

@@ -41,7 +41,7 @@ pub fn count_between(source: &[u8], from: usize, to: usize, b: u8) -> usize
 }
 
 // A sign that compares, or none of them.
-#[derive(Drop)]
+#[derive(Clone, Copy)]
 pub enum Sign {
     Equal,
     Unequal,

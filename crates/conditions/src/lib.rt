@@ -1,4 +1,6 @@
 // The condition that a branch tests, as tokens.
+#![tactic(auto)]
+
 mod assigned;
 pub mod condition;
 pub mod operands;

@@ -16,21 +16,21 @@ use records::owners::stmt_field;
 use render::expr::{expr, value};
 use room::out::Out;
 
-#[derive(Drop)]
+#[derive(Clone, Copy)]
 pub enum Operand {
     Node(u32),
     Assigned(u32),
 }
 
 // A setter with its two operands.
-#[derive(Drop)]
+#[derive(Clone, Copy)]
 pub struct Pair {
     pub by: Setter,
     pub left: Operand,
     pub right: Operand,
 }
 
-#[derive(Drop)]
+#[derive(Clone, Copy)]
 pub enum Found {
     Nothing,
     By(Pair),

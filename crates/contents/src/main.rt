@@ -1,4 +1,6 @@
 // Prints the 22 words of a function file's table of contents, one to a line: the file on standard input.
+#![tactic(auto)]
+
 use libc::{STDIN_FILENO, STDOUT_FILENO};
 
 fn print_word(f: &[u8], at: usize) {

@@ -1,2 +1,4 @@
 // What a file defines: its values, place by place.
+#![tactic(auto)]
+
 pub mod value;

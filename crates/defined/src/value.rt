@@ -16,14 +16,14 @@ pub const REGISTERS: u32 = 16;
 
 pub const RSP: u32 = 4;
 
-#[derive(Drop)]
+#[derive(Clone, Copy)]
 pub struct Value {
     pub reg: u32,
     pub ver: u32,
 }
 
 // What a statement defines by its own fields.
-#[derive(Drop)]
+#[derive(Clone, Copy)]
 pub enum Defined {
     Nothing,
     One(Value),

@@ -1,1 +1,2 @@
 // The definition has no code: specs/ says what is right, proofs/ its theorems.
+#![tactic(auto)]

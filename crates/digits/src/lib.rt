@@ -1,4 +1,6 @@
 // Numbers as text: digits to a base, and behind a constant front `num`, `slot` and pointers.
+#![tactic(auto)]
+
 ghost use Rattle.std.specs.Prelude.{◌≡◌, ◌++◌, ◌≤◌, ◌<◌, length};
 ghost use Rattle.definition.specs.Numbers.{digit as digit_of, hex_upper, num as num_of, slot as slot_of};
 ghost use Rattle.definition.specs.Render.{pointer as pointer_of};
@@ -13,7 +15,7 @@ pub const HALF: u64 = 0x8000_0000_0000_0000;
 pub const LAST: u64 = 0xFFFF_FFFF_FFFF_FFFF;
 
 // How digits are written: the base, and the letters above 9.
-#[derive(Drop)]
+#[derive(Clone, Copy)]
 pub enum Radix {
     Decimal,
     Lower,

@@ -1,4 +1,6 @@
 // `drop_unused_labels` on rows.
+#![tactic(auto)]
+
 ghost use Rattle.std.specs.Prelude.{◌≡◌, ◌≤◌, ◌<◌, length, take};
 ghost use Rattle.passes.specs.Dropping.{kept_row, gathered, placed, gather_from, drop_rows};
 

@@ -1,4 +1,6 @@
 // What is looked at of one record by itself, and one loop over the records of a section. What each rule is, `fields` and `defined` say.
+#![tactic(auto)]
+
 ghost use Rattle.std.specs.Prelude.{◌≡◌};
 ghost use Rattle.definition.specs.Lists.{all, all_below};
 ghost use Rattle.definition.specs.Meaning.{is_register, use_register};
@@ -36,7 +38,7 @@ fn use_named(f: &[u8], i: u32) -> bool
 }
 
 // The words of a block, a phi or an expression in their places; the registers that an argument, a phi, what an Assign defines, or a Use names.
-#[derive(Drop)]
+#[derive(Clone, Copy)]
 pub enum Rule {
     BlockShaped,
     PhiShaped,

@@ -1,4 +1,6 @@
 // Each word of a record in its place, by the record's kind. Tests are joined by `&` and `|`, which look at both sides, as the definition's do.
+#![tactic(auto)]
+
 ghost use Rattle.std.specs.Prelude.{◌≡◌};
 ghost use Rattle.definition.specs.Codes.{k_call, k_branch, k_return, k_other};
 ghost use Rattle.definition.specs.Owners.{stmt_kind, stmt_field};

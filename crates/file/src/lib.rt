@@ -1,4 +1,6 @@
 // The reader: checks 2 to 6 in order over a lent file, and its exported form.
+#![tactic(auto)]
+
 ghost use Rattle.std.specs.Prelude.{◌≡◌};
 ghost use Rattle.file.specs.Verdicts.{number_of, Judged, Checked};
 
@@ -10,7 +12,7 @@ use shape::refused4;
 use zeros::clear_words;
 
 // What a file is found to be: the number of each refusal is given by `number_of`.
-#[derive(Drop)]
+#[derive(Clone, Copy)]
 pub enum Verdict {
     Sound,
     Lent,

@@ -1,4 +1,6 @@
 // The finished lines, written once.
+#![tactic(auto)]
+
 pub mod kinds;
 pub mod rows;
 

@@ -6,7 +6,7 @@ ghost use Rattle.flags.specs.Views.{code_enum};
 
 use crate::spans::clip;
 
-#[derive(Drop)]
+#[derive(Clone, Copy)]
 pub enum Code {
     E,
     Ne,

@@ -1,7 +1,7 @@
 // The parts of a comparison.
 
 // What set the flags: CMP, TEST, TEST of an operand and itself, or arithmetic on a value.
-#[derive(Drop)]
+#[derive(Clone, Copy)]
 pub enum Setter {
     Cmp,
     Test,
@@ -9,7 +9,7 @@ pub enum Setter {
     Result,
 }
 
-#[derive(Drop)]
+#[derive(Clone, Copy)]
 pub enum Sign {
     Equal,
     Unequal,
@@ -20,7 +20,7 @@ pub enum Sign {
 }
 
 // What stands on either side.
-#[derive(Drop)]
+#[derive(Clone, Copy)]
 pub enum Side {
     Left,
     Right,
@@ -30,7 +30,7 @@ pub enum Side {
 }
 
 // What is printed, if anything.
-#[derive(Drop)]
+#[derive(Clone, Copy)]
 pub struct Shown {
     pub there: bool,
     pub unsigned: bool,
@@ -40,7 +40,7 @@ pub struct Shown {
 }
 
 // A setter with its two expressions.
-#[derive(Drop)]
+#[derive(Clone, Copy)]
 pub struct Operands {
     pub by: Setter,
     pub left: u32,
@@ -48,7 +48,7 @@ pub struct Operands {
 }
 
 // What a block's flags were set by: nothing, two expressions, or the value that a statement assigns.
-#[derive(Drop)]
+#[derive(Clone, Copy)]
 pub enum Setting {
     Nothing,
     Operands(Operands),

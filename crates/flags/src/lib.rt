@@ -1,4 +1,6 @@
 // What a branch tests: which statement set the flags, and which comparison the condition code makes of it.
+#![tactic(auto)]
+
 pub mod codes;
 pub mod comparison;
 pub mod same;

@@ -14,7 +14,7 @@ use ssa::node::{Node, node_at};
 use ssa::parts::Text;
 
 // A node but for the trees of its children: its tag, its numbers, its text, and which nodes the children are.
-#[derive(Drop)]
+#[derive(Clone, Copy)]
 struct Head {
     tag: u32,
     low: u64,

@@ -17,7 +17,7 @@ use defined::value::RSP;
 use statements::statement::{Flags, Kind, stmt_at};
 
 // The number of a statement, if there is one.
-#[derive(Drop)]
+#[derive(Clone, Copy)]
 struct Last {
     there: bool,
     at: u32,

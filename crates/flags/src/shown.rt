@@ -1,14 +1,14 @@
 // Which comparison is printed for a condition code, by what set the flags.
 ghost use Rattle.std.specs.Prelude.{◌≡◌, true, false};
 ghost use Rattle.std.proofs.Math.Option.{none};
-ghost use Rattle.definition.specs.Condition.Setter.{cmp, test, self as alike, result};
+ghost use Rattle.definition.specs.Condition.Setter.{cmp, test, self as alike, result as outcome};
 ghost use Rattle.flags.specs.Views.{shown_record, printed, view_code, shown_by, shown_of};
 
 use crate::codes::Code;
 use crate::comparison::{Setter, Shown, Side, Sign};
 
 fn nothing() -> Shown
-    ensures* { λ r. ⌜ r ≡ shown_record none ⌝ }
+    ensures { result ≡ shown_record none }
 {
     Shown {
         there: false,
@@ -20,7 +20,7 @@ fn nothing() -> Shown
 }
 
 fn signed(lhs: Side, sign: Sign, rhs: Side) -> Shown
-    ensures* { λ r. ⌜ r ≡ printed false lhs sign rhs ⌝ }
+    ensures { result ≡ printed false lhs sign rhs }
 {
     Shown {
         there: true,
@@ -33,7 +33,7 @@ fn signed(lhs: Side, sign: Sign, rhs: Side) -> Shown
 
 // The two operands, unsigned.
 fn unsigned(sign: Sign) -> Shown
-    ensures* { λ r. ⌜ r ≡ printed true Side.Left sign Side.Right ⌝ }
+    ensures { result ≡ printed true Side.Left sign Side.Right }
 {
     Shown {
         there: true,
@@ -45,7 +45,7 @@ fn unsigned(sign: Sign) -> Shown
 }
 
 fn after_cmp(code: Code) -> Shown
-    ensures* { λ r. ⌜ r ≡ shown_record (shown_by cmp (view_code code)) ⌝ }
+    ensures { result ≡ shown_record (shown_by cmp (view_code code)) }
 {
     match code {
         Code::E => signed(Side::Left, Sign::Equal, Side::Right),
@@ -65,7 +65,7 @@ fn after_cmp(code: Code) -> Shown
 }
 
 fn after_test(code: Code) -> Shown
-    ensures* { λ r. ⌜ r ≡ shown_record (shown_by test (view_code code)) ⌝ }
+    ensures { result ≡ shown_record (shown_by test (view_code code)) }
 {
     match code {
         Code::E => signed(Side::Both, Sign::Equal, Side::Nought),
@@ -76,7 +76,7 @@ fn after_test(code: Code) -> Shown
 
 // After a TEST of an operand and itself.
 fn after_same(code: Code) -> Shown
-    ensures* { λ r. ⌜ r ≡ shown_record (shown_by alike (view_code code)) ⌝ }
+    ensures { result ≡ shown_record (shown_by alike (view_code code)) }
 {
     match code {
         Code::E => signed(Side::Left, Sign::Equal, Side::Nought),
@@ -90,7 +90,7 @@ fn after_same(code: Code) -> Shown
 }
 
 fn after_result(code: Code) -> Shown
-    ensures* { λ r. ⌜ r ≡ shown_record (shown_by result (view_code code)) ⌝ }
+    ensures { result ≡ shown_record (shown_by outcome (view_code code)) }
 {
     match code {
         Code::E => signed(Side::Left, Sign::Equal, Side::Nought),
@@ -102,7 +102,7 @@ fn after_result(code: Code) -> Shown
 }
 
 pub fn shown(by: Setter, code: Code) -> Shown
-    ensures* { λ r. ⌜ r ≡ shown_record (shown_of by code) ⌝ }
+    ensures { result ≡ shown_record (shown_of by code) }
 {
     match by {
         Setter::Cmp => after_cmp(code),

@@ -7,7 +7,7 @@ ghost use Rattle.flags.specs.Inside.{Inside};
 use words::same_text;
 
 // A part of the file that lies inside.
-#[derive(Drop)]
+#[derive(Clone, Copy)]
 pub struct Span {
     pub start: usize,
     pub end: usize,

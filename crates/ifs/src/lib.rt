@@ -1,4 +1,6 @@
 // `structure_ifs` on rows.
+#![tactic(auto)]
+
 ghost use Rattle.std.specs.Prelude.{◌≡◌, ◌+◌, ◌-◌, ◌<◌, length};
 ghost use Rattle.passes.specs.Regions.{label_from, if_goal, formed_if};
 ghost use Rattle.passes.specs.Sweeps.{tried, if_tried, swept, if_rows};

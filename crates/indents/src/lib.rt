@@ -1,9 +1,11 @@
 // Finished lines, set deeper.
+#![tactic(auto)]
+
 ghost use Rattle.std.specs.Prelude.{◌≡◌, map};
 ghost use Rattle.indents.specs.Deeper.{deeper_by, raised_by};
 
 // A finished line as the caller reads it: whether it has an address, the address, its indent, the end of its tokens, 0.
-#[derive(Drop)]
+#[derive(Clone, Copy)]
 pub struct Line {
     pub has: u64,
     pub address: u64,

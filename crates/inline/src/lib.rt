@@ -1,4 +1,6 @@
 // Which values are written in place of their one use: for each the statement that defines it.
+#![tactic(auto)]
+
 ghost use Rattle.std.specs.Prelude.{◌≡◌, ◌+◌, ◌-◌, ◌<◌, ◌≤◌, length, replicate};
 ghost use Rattle.definition.specs.Edition.{Edition, statements};
 ghost use Rattle.definition.specs.Lists.{gather, range, at};

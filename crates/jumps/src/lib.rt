@@ -1,3 +1,5 @@
 // The lines of a Branch.
+#![tactic(auto)]
+
 pub mod branch;
 pub mod conditional;

@@ -1,4 +1,6 @@
 // A block has a label where some block goes there other than by falling into the next, or some branch does, dead or live.
+#![tactic(auto)]
+
 ghost use Rattle.std.specs.Prelude.{◌≡◌, true, ◌≤◌, ◌<◌, length, replicate};
 ghost use Rattle.definition.specs.Edition.{blocks, statements};
 ghost use Rattle.definition.specs.Lists.{distinct, gather, range};

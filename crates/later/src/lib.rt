@@ -1,4 +1,6 @@
 // The search for the one later read of a value in its block.
+#![tactic(auto)]
+
 ghost use Rattle.std.specs.Prelude.{◌≡◌, ◌&&◌, ◌<◌, ◌≤◌, ◌-◌, eqb};
 ghost use Rattle.definition.specs.Owners.{stmt_field};
 ghost use Rattle.definition.specs.Lists.{at};
@@ -8,7 +10,7 @@ use records::owners::{ASSIGN, BRANCH, FLAGS, RETURN, stmt_field, stmt_kind};
 use slices::at_u32;
 
 // The statement that reads it, if it may be written there.
-#[derive(Drop)]
+#[derive(Clone, Copy)]
 pub enum Later {
     At(u32),
     Nowhere,

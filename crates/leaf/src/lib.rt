@@ -1,9 +1,11 @@
 // The leaves of printing: a writer's answer, and the writers that copy. Each is lent only the unwritten rest of the text, a part that begins at its
 // current end, and answers how much it wrote or that there is no room, and then it has touched nothing.
+#![tactic(auto)]
+
 ghost use Rattle.definition.specs.Words.{part};
 ghost use Rattle.leaf.specs.Leaf.{Leaf};
 
-#[derive(Drop)]
+#[derive(Clone, Copy)]
 pub enum Wrote {
     Bytes(usize),
     NoRoom,

@@ -6,7 +6,7 @@ use structure::answers::{Counts, Structured};
 
 // The number of the refusal with no counts, or 0 with what the listing has.
 #[repr(C)]
-#[derive(Drop)]
+#[derive(Clone, Copy)]
 pub struct Answer {
     pub number: u32,
     pub lines: usize,
@@ -19,7 +19,7 @@ pub struct Answer {
 
 // What lowering answers: the number of the refusal, or 0 and how many lines there are.
 #[repr(C)]
-#[derive(Drop)]
+#[derive(Clone, Copy)]
 pub struct Lowered {
     pub number: u32,
     pub lines: usize,

@@ -14,7 +14,7 @@ const TOKENS: usize = 6144;
 const BYTES: usize = 32768;
 
 // Buffers for lowered lines, or the caller's.
-#[derive(Drop)]
+#[derive(Clone, Copy)]
 enum Buffers {
     LoweredLines,
     Callers,

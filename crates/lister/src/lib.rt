@@ -1,4 +1,6 @@
 // The printer: a function file's listing in the lent buffers, or the first of refusals 1 to 9.
+#![tactic(auto)]
+
 ghost use Rattle.tables.specs.Tables.{tables_of};
 ghost use Rattle.lister.specs.Lists.{Lists};
 

@@ -1,4 +1,6 @@
 // Prints the listing of the function file on standard input.
+#![tactic(auto)]
+
 use libc::{STDERR_FILENO, STDIN_FILENO};
 use printing::print_listing;
 

@@ -1,4 +1,6 @@
 // `structure_do_while` on rows.
+#![tactic(auto)]
+
 ghost use Rattle.std.specs.Prelude.{◌≡◌, cond, ◌+◌, ◌-◌, ◌<◌, eqb, length};
 ghost use Rattle.passes.specs.Regions.{back_from, do_goal, formed_do};
 ghost use Rattle.passes.specs.Sweeps.{tried, do_tried, swept, do_rows};

@@ -23,7 +23,7 @@ use records::owners::block_stmts;
 use room::out::Out;
 
 // What is written, and where the next statement and its list items begin.
-#[derive(Drop)]
+#[derive(Clone, Copy)]
 pub struct Walk {
     pub out: Out,
     pub stmt: u32,

@@ -1,4 +1,6 @@
 // Lowering: the lines of a function, block by block in the file's order.
+#![tactic(auto)]
+
 mod block;
 mod stmt;
 

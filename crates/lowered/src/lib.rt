@@ -1,4 +1,6 @@
 // The lowered lines of a file, in scratch, or the first of refusals 1 to 8.
+#![tactic(auto)]
+
 mod emptying;
 mod passed;
 

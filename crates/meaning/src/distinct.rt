@@ -10,7 +10,7 @@ use defined::value::RSP;
 use records::contents::{ARGS, BLOCKS, NAMES, arg_at, block_long, name_long, size_of};
 
 // What may not stand twice: the arguments, and where blocks start.
-#[derive(Drop)]
+#[derive(Clone, Copy)]
 pub enum Keys {
     Args,
     Starts,

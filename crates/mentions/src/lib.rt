@@ -1,4 +1,6 @@
 // The expressions that a record names, by their number: the children of an expression and the roots of a statement.
+#![tactic(auto)]
+
 ghost use Rattle.std.specs.Prelude.{◌≡◌, ◌+◌, ◌≤◌, ◌<◌};
 ghost use Rattle.definition.specs.Owners.{expr_items};
 ghost use Rattle.mentions.specs.Named.{child_count, child_at, root_count, root_at};

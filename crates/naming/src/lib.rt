@@ -1,4 +1,6 @@
 // The name of every value: parameters for argument registers' entry values, locals for the rest, in the order of the walk over the blocks.
+#![tactic(auto)]
+
 mod phis;
 mod position;
 mod runs;

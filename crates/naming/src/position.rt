@@ -1,5 +1,5 @@
 // Where the walk stands: the next phi and statement, where their inputs and items begin, and the next local's number.
-#[derive(Drop)]
+#[derive(Clone, Copy)]
 pub struct Walk {
     pub phi: u32,
     pub stmt: u32,

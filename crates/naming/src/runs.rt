@@ -13,7 +13,7 @@ use records::contents::{expr_word, input_at, phi_word};
 use slices::at_u32;
 
 // The inputs of a phi, list items that are values, or the nodes that `order` has.
-#[derive(Drop)]
+#[derive(Clone, Copy)]
 pub enum Run {
     Inputs(u32),
     Items,
@@ -21,7 +21,7 @@ pub enum Run {
 }
 
 // A value that is mentioned, and the place that names it.
-#[derive(Drop)]
+#[derive(Clone, Copy)]
 pub struct Mention {
     pub place: usize,
     pub value: Value,

@@ -1,3 +1,5 @@
 // The heads and ends of regions.
+#![tactic(auto)]
+
 pub mod heads;
 pub mod negation;

@@ -1,5 +1,7 @@
 // Stack offsets: which values are the stack pointer at entry plus or minus a constant. Rounds until one teaches nothing, for RSP's own definitions and
 // then for the others'.
+#![tactic(auto)]
+
 ghost use Rattle.std.specs.Prelude.{◌≡◌, List, length, replicate};
 ghost use Rattle.definition.specs.Edition.{Edition, blocks};
 ghost use Rattle.definition.specs.Contents.{size, text};

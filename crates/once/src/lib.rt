@@ -1,4 +1,6 @@
 // The exact scan: what a phi or an Assign defines has a version above 0 and is defined nowhere else.
+#![tactic(auto)]
+
 ghost use Rattle.std.specs.Prelude.{◌≡◌, true, map, ◌+◌, ◌≤◌, ◌<◌};
 ghost use Rattle.definition.specs.Edition.{phis, statements};
 ghost use Rattle.definition.specs.Lists.{all, count, gather, range, sum_below};

@@ -1,4 +1,6 @@
 // Every expression has one owner: each mention is counted once, in a table that is lent.
+#![tactic(auto)]
+
 ghost use Rattle.std.specs.Prelude.{◌≡◌, ◌+◌, ◌≤◌, ◌<◌, eqb, length};
 ghost use Rattle.definition.specs.Edition.{statements, expressions};
 ghost use Rattle.definition.specs.Contents.{size};

@@ -1,5 +1,7 @@
 // The places of a file that may name a value: where those of each section begin, in a file whose owners' counts come out, and the key of what
 // each names.
+#![tactic(auto)]
+
 pub mod key;
 
 ghost use Rattle.std.specs.Prelude.{◌≡◌};
@@ -8,7 +10,7 @@ ghost use Rattle.places.specs.Keys.{places_of};
 use records::contents::{ARGS, EXPRESSIONS, INPUTS, LISTS, PHIS, STATEMENTS, size_of};
 
 // Args come first, at 0.
-#[derive(Drop)]
+#[derive(Clone, Copy)]
 pub struct Places {
     pub phis: usize,
     pub inputs: usize,

@@ -1,4 +1,6 @@
 // The lines of the statements that neither call nor jump.
+#![tactic(auto)]
+
 pub mod assign;
 pub mod other;
 mod parts;

@@ -17,13 +17,13 @@ use records::owners::{expr_items, value_items};
 use slices::at_u32;
 
 // A variable, by its register and the code of its name.
-#[derive(Drop)]
+#[derive(Clone, Copy)]
 pub struct Named {
     pub reg: u32,
     pub code: u32,
 }
 
-#[derive(Drop)]
+#[derive(Clone, Copy)]
 pub enum Sets {
     Nothing,
     One(Named),

@@ -1,4 +1,6 @@
 // Check 5, texts: each lies inside the text, names and operators are not empty, and every byte of the text is printable.
+#![tactic(auto)]
+
 ghost use Rattle.std.specs.Prelude.{◌≡◌, not, ◌&&◌, eqb};
 ghost use Rattle.definition.specs.Words.{part};
 ghost use Rattle.definition.specs.Contents.{size, text, text_at};
@@ -66,7 +68,7 @@ fn text_printable(e: Edition, f: &[u8]) -> bool
 }
 
 // The sections whose records have texts.
-#[derive(Drop)]
+#[derive(Clone, Copy)]
 enum Records {
     Names,
     Stmts,
@@ -84,7 +86,7 @@ fn record_word(f: &[u8], s: Records, i: u32, k: u32) -> u32
 }
 
 // The words of a record at which its text's start and length stand, and whether it may be empty.
-#[derive(Drop)]
+#[derive(Clone, Copy)]
 enum Text {
     Absent,
     Any(u32, u32),

@@ -1,4 +1,6 @@
 // A file's listing on standard output, as document 01 says: a header, then each line's address, indent and text; or `refused` and the number.
+#![tactic(auto)]
+
 use digits::hex_upper;
 use leaf::Wrote;
 use lent::answer::Answer;

@@ -1,4 +1,6 @@
 // What a comparison with the Rust runs piece by piece: the writer of pieces and the structuring passes, exported.
+#![tactic(auto)]
+
 pub mod structuring;
 
 ghost use Rattle.std.specs.Prelude.{◌≡◌};

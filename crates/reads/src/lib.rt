@@ -1,4 +1,6 @@
 // How often live statements read each value, whether a phi does, and which live statement reads it last: tables by value number.
+#![tactic(auto)]
+
 ghost use Rattle.std.specs.Prelude.{◌≡◌, ◌+◌, ◌<◌, length};
 ghost use Rattle.definition.specs.Edition.{statements};
 ghost use Rattle.definition.specs.Contents.{size};

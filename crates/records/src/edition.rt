@@ -5,14 +5,14 @@ ghost use Rattle.definition.specs.Edition.{edition1};
 ghost use Rattle.records.specs.Editions.{entry_at, words_at, limit_at, edition_of};
 
 // Lines, tokens and bytes of text.
-#[derive(Drop)]
+#[derive(Clone, Copy)]
 pub struct Room {
     pub lines: u32,
     pub tokens: u32,
     pub bytes: u32,
 }
 
-#[derive(Drop)]
+#[derive(Clone, Copy)]
 pub struct Edition {
     pub number: u32,
     // How many sections there are, the text being the last.

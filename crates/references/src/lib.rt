@@ -1,4 +1,6 @@
 // Check 5: texts are sound, children are lower than their parents, and every expression has one owner.
+#![tactic(auto)]
+
 ghost use Rattle.std.specs.Prelude.{◌≡◌, true, ◌+◌, ◌≤◌, ◌<◌, length};
 ghost use Rattle.definition.specs.Edition.{statements, expressions};
 ghost use Rattle.definition.specs.Contents.{size};

@@ -25,7 +25,7 @@ use slices::{at_u32, at_u64};
 use ssa::node::{Bin, Load, Un};
 
 // Where an expression is: node n, which counts if it is below b, before statement `pos`. t is the text's section.
-#[derive(Drop)]
+#[derive(Clone, Copy)]
 struct Spot {
     t: u32,
     places: Places,
@@ -78,7 +78,7 @@ fn is_open(k: u32, pos: u32) -> bool
 }
 
 // Expression n, where it is below b.
-#[cycle(below_binary_through_unary_value)]
+#[cycle(rendering)]
 fn below(
     tokens: &mut [u64],
     text: &mut [u8],
@@ -118,7 +118,7 @@ fn below(
 }
 
 // The operands s of expression n, and the operator between them.
-#[cycle(below_binary_through_unary_value)]
+#[cycle(rendering)]
 fn binary(
     tokens: &mut [u64],
     text: &mut [u8],
@@ -162,7 +162,7 @@ fn binary(
 }
 
 // The operator, and the operand behind it.
-#[cycle(below_binary_through_unary_value)]
+#[cycle(rendering)]
 fn unary(
     tokens: &mut [u64],
     text: &mut [u8],
@@ -194,7 +194,7 @@ fn unary(
 }
 
 // A load through an address.
-#[cycle(below_binary_through_unary_value)]
+#[cycle(rendering)]
 fn through(
     tokens: &mut [u64],
     text: &mut [u8],
@@ -227,7 +227,7 @@ fn through(
 }
 
 // The value of register `reg` that stands at `place` of the file.
-#[cycle(below_binary_through_unary_value)]
+#[cycle(rendering)]
 pub fn value(
     tokens: &mut [u64],
     text: &mut [u8],

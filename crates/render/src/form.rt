@@ -18,14 +18,14 @@ use sums::address::stack_off;
 use text::names::is_global;
 
 // A global at an address, of which `size` bytes are loaded.
-#[derive(Drop)]
+#[derive(Clone, Copy)]
 pub struct Global {
     pub address: u64,
     pub size: u32,
 }
 
 // What needs no other expression. Offsets are 2^63 more than they say.
-#[derive(Drop)]
+#[derive(Clone, Copy)]
 pub enum Leaf {
     Number(u64),
     // The address of a slot.
@@ -35,7 +35,7 @@ pub enum Leaf {
     Opaque(Text),
 }
 
-#[derive(Drop)]
+#[derive(Clone, Copy)]
 pub enum Form {
     Leaf(Leaf),
     // A value of this register.

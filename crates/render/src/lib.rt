@@ -1,4 +1,6 @@
 // Expressions and values as tokens in the room.
+#![tactic(auto)]
+
 pub mod code;
 pub mod expr;
 mod form;

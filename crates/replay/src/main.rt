@@ -1,5 +1,7 @@
 // Replays stored function files: a batch on standard input (their number and lengths, a word each, then the files). For each file it
 // prints a line with its number, then its listing.
+#![tactic(auto)]
+
 use libc::{STDIN_FILENO, STDOUT_FILENO};
 use printing::print_listing;
 

@@ -2,7 +2,7 @@
 ghost use Rattle.std.specs.Prelude.{◌≡◌};
 ghost use Rattle.room.specs.Blank.{fresh};
 
-#[derive(Drop)]
+#[derive(Clone, Copy)]
 pub struct Out {
     pub lines: usize,
     pub tokens: usize,
@@ -29,7 +29,7 @@ impl Out {
 }
 
 // What a line stands at.
-#[derive(Drop)]
+#[derive(Clone, Copy)]
 pub enum At {
     Nowhere,
     Address(u64),

@@ -1,4 +1,6 @@
 // One round over the definitions of a closure: each block's phis, then its Assigns, dead ones too.
+#![tactic(auto)]
+
 mod rules;
 
 ghost use Rattle.std.specs.Prelude.{◌≡◌, ◌||◌, ◌+◌, ◌≤◌, ◌<◌, length};
@@ -18,7 +20,7 @@ use records::contents::{BLOCKS, size_of};
 use records::owners::{block_phis, block_stmts, phi_inputs};
 
 // The first phi, input and statement of the next block, and whether the last one taught something.
-#[derive(Drop)]
+#[derive(Clone, Copy)]
 pub struct Walk {
     pub phi: u32,
     pub input: u32,
@@ -26,7 +28,7 @@ pub struct Walk {
     pub changed: bool,
 }
 
-#[derive(Drop)]
+#[derive(Clone, Copy)]
 pub struct Phis {
     pub input: u32,
     pub changed: bool,

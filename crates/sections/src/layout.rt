@@ -63,7 +63,7 @@ pub fn adjoin(e: Edition, f: &[u8]) -> bool
 }
 
 // What owners take in order: a block's phis and statements, a phi's inputs, a statement's list items.
-#[derive(Drop)]
+#[derive(Clone, Copy)]
 enum Parts {
     Phis,
     Stmts,

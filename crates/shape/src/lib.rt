@@ -1,4 +1,6 @@
 // Check 4: sections, owned counts, and every word in its place.
+#![tactic(auto)]
+
 ghost use Rattle.std.specs.Prelude.{true, ◌≡◌};
 ghost use Rattle.definition.specs.Contents.{size};
 ghost use Rattle.definition.specs.Edition.{statements};

@@ -9,7 +9,7 @@ use slices::at_u64;
 const END: usize = 3;
 
 // The tokens of a line, or the bytes of a token.
-#[derive(Drop)]
+#[derive(Clone, Copy)]
 pub enum Run {
     Tokens,
     Bytes,

@@ -24,7 +24,7 @@ fn part(text: &[u8], from: usize, to: usize) -> &[u8]
 }
 
 // How a range and a text may be compared: the range is the text, begins with it, or has it somewhere.
-#[derive(Drop)]
+#[derive(Clone, Copy)]
 enum Test {
     Is,
     Begins,

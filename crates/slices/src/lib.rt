@@ -1,4 +1,6 @@
 // Tables at any place: 0 is read outside, and nothing is written there.
+#![tactic(auto)]
+
 ghost use Rattle.std.specs.Prelude.{◌≡◌, set};
 ghost use Rattle.definition.specs.Lists.{at};
 

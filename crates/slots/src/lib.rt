@@ -1,4 +1,6 @@
 // What is defined once, in one pass: each value takes a slot of a lent table. Only where two share one does the exact scan decide.
+#![tactic(auto)]
+
 ghost use Rattle.std.specs.Prelude.{◌≡◌, true, ◌++◌, map, ◌+◌, ◌<◌, length, replicate};
 ghost use Rattle.definition.specs.Edition.{phis, statements};
 ghost use Rattle.definition.specs.Lists.{all, gather, range, all_below};

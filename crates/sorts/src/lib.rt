@@ -1,4 +1,6 @@
 // A row for each lowered line, for the passes.
+#![tactic(auto)]
+
 pub mod labels;
 pub mod lines;
 

@@ -10,7 +10,7 @@ use sheet::ranges::is_between;
 use sheet::tokens::{end_at, kind_at, start_at, token_is};
 
 // The place of the token that a goto names.
-#[derive(Drop)]
+#[derive(Clone, Copy)]
 pub enum Target {
     Token(usize),
     Nowhere,

@@ -7,7 +7,7 @@ use defined::value::{Value, phi_value};
 use records::contents::{block_long, block_word, phi_word};
 use records::owners::{block_phis, block_stmts, phi_inputs};
 
-#[derive(Drop)]
+#[derive(Clone, Copy)]
 pub struct Phi {
     pub value: Value,
     pub dead: bool,
@@ -15,7 +15,7 @@ pub struct Phi {
     pub inputs: u32,
 }
 
-#[derive(Drop)]
+#[derive(Clone, Copy)]
 pub struct Block {
     pub start: u64,
     pub taken: Destination,

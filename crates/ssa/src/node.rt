@@ -17,26 +17,26 @@ pub const UN: u32 = 4;
 
 pub const LOAD: u32 = 5;
 
-#[derive(Drop)]
+#[derive(Clone, Copy)]
 pub struct Bin {
     pub op: Text,
     pub left: u32,
     pub right: u32,
 }
 
-#[derive(Drop)]
+#[derive(Clone, Copy)]
 pub struct Un {
     pub op: Text,
     pub child: u32,
 }
 
-#[derive(Drop)]
+#[derive(Clone, Copy)]
 pub struct Load {
     pub size: u32,
     pub child: u32,
 }
 
-#[derive(Drop)]
+#[derive(Clone, Copy)]
 pub enum Node {
     // A constant is its 64 bits.
     Const(u64),

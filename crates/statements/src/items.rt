@@ -5,7 +5,7 @@ ghost use Rattle.statements.specs.Items.{expr_run, value_run};
 use records::owners::{expr_items, value_items};
 
 // A run of list items, by place.
-#[derive(Drop)]
+#[derive(Clone, Copy)]
 pub struct Items {
     pub first: u32,
     pub count: u32,

@@ -10,14 +10,14 @@ use records::owners::{ASSIGN, BRANCH, CALL, FLAGS, RETURN, STORE, stmt_field, st
 use ssa::parts::{Destination, Text};
 
 // `value` becomes the expression.
-#[derive(Drop)]
+#[derive(Clone, Copy)]
 pub struct Assign {
     pub value: Value,
     pub expr: u32,
 }
 
 // `size` bytes of `value` go to `address`.
-#[derive(Drop)]
+#[derive(Clone, Copy)]
 pub struct Store {
     pub size: u32,
     pub address: u32,
@@ -25,13 +25,13 @@ pub struct Store {
 }
 
 // What a call returns, if anything.
-#[derive(Drop)]
+#[derive(Clone, Copy)]
 pub struct Returned {
     pub there: bool,
     pub value: Value,
 }
 
-#[derive(Drop)]
+#[derive(Clone, Copy)]
 pub struct Call {
     pub target: Text,
     pub args: Items,
@@ -40,13 +40,13 @@ pub struct Call {
 }
 
 // The condition code of a conditional branch.
-#[derive(Drop)]
+#[derive(Clone, Copy)]
 pub struct Condition {
     pub there: bool,
     pub text: Text,
 }
 
-#[derive(Drop)]
+#[derive(Clone, Copy)]
 pub struct Branch {
     pub condition: Condition,
     pub target: Destination,
@@ -54,27 +54,27 @@ pub struct Branch {
 }
 
 // A TEST of two operands, or else a CMP.
-#[derive(Drop)]
+#[derive(Clone, Copy)]
 pub struct Flags {
     pub test: bool,
     pub left: u32,
     pub right: u32,
 }
 
-#[derive(Drop)]
+#[derive(Clone, Copy)]
 pub struct Return {
     pub there: bool,
     pub expr: u32,
 }
 
-#[derive(Drop)]
+#[derive(Clone, Copy)]
 pub struct Other {
     pub text: Text,
     pub uses: Items,
     pub defs: Items,
 }
 
-#[derive(Drop)]
+#[derive(Clone, Copy)]
 pub enum Kind {
     Assign(Assign),
     Store(Store),
@@ -85,7 +85,7 @@ pub enum Kind {
     Other(Other),
 }
 
-#[derive(Drop)]
+#[derive(Clone, Copy)]
 pub struct Stmt {
     pub address: u64,
     // 1 dead, 2 sets the flags, 4 a push.

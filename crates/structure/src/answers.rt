@@ -1,7 +1,7 @@
 // What the passes, and structuring as a whole, answer.
 
 // How many rows the passes leave, and how many ifs and loops they formed.
-#[derive(Drop)]
+#[derive(Clone, Copy)]
 pub struct Kept {
     pub rows: usize,
     pub ifs: usize,
@@ -9,14 +9,14 @@ pub struct Kept {
 }
 
 // Refused: a line would stand inside more than 254 open braces.
-#[derive(Drop)]
+#[derive(Clone, Copy)]
 pub enum Passes {
     Refused,
     Left(Kept),
 }
 
 // Of the finished lines: how many they are, their tokens and bytes, the ifs and loops formed, and the lines that begin with `if`.
-#[derive(Drop)]
+#[derive(Clone, Copy)]
 pub struct Counts {
     pub lines: usize,
     pub tokens: usize,
@@ -26,7 +26,7 @@ pub struct Counts {
     pub tests: usize,
 }
 
-#[derive(Drop)]
+#[derive(Clone, Copy)]
 pub enum Structured {
     TooDeep,
     Listed(Counts),

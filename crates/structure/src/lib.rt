@@ -1,4 +1,6 @@
 // From lowered lines in buffers to the finished lines in the lent buffers.
+#![tactic(auto)]
+
 pub mod answers;
 mod passing;
 mod writing;

@@ -1,4 +1,6 @@
 // The lowered lines structured into the lent buffers, where there are any.
+#![tactic(auto)]
+
 ghost use Rattle.structured.specs.Structured.{Lowers, Answers};
 
 use lent::answer::{Answer, Lowered, answer_of, refused};

@@ -1,4 +1,6 @@
 // Offsets of addresses: a value's, or its sum with a constant, and whether such a sum is outside 64 bits.
+#![tactic(auto)]
+
 pub mod address;
 pub mod outside;
 pub mod reading;

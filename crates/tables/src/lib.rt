@@ -1,4 +1,6 @@
 // All analyses of one file in one function over lent tables: refusals 1 to 7, or what lowering asks.
+#![tactic(auto)]
+
 pub mod clearing;
 mod front;
 mod lengths;

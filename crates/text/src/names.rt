@@ -11,7 +11,7 @@ use digits::{HALF, Radix, behind};
 use leaf::{Wrote, copy_part};
 use records::contents::{NAMES, name_long, name_word, offset_of, size_of};
 
-#[derive(Drop)]
+#[derive(Clone, Copy)]
 pub enum Found {
     At(u32),
     Nothing,

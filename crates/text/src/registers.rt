@@ -20,7 +20,7 @@ fn is_among(v: u32, s: &[u32]) -> bool
     false
 }
 
-#[derive(Drop)]
+#[derive(Clone, Copy)]
 pub struct Register {
     pub number: u32,
 }

@@ -1,4 +1,6 @@
 // Document 01's examples of numbers, slots and four-byte loads, written by the writers, one a line.
+#![tactic(auto)]
+
 use digits::{HALF, num, pointer, slot};
 use leaf::{Wrote, copy};
 use libc::STDOUT_FILENO;

@@ -1,4 +1,6 @@
 // Classes of value numbers by links from a number to a lesser one of its class: find with path compression, union to the least.
+#![tactic(auto)]
+
 ghost use Rattle.std.specs.Prelude.{◌≡◌, ◌<◌, length};
 ghost use Rattle.definition.specs.Lists.{range};
 ghost use Rattle.unions.specs.Roots.{under, root_at, roots_of, linked, join};

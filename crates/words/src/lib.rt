@@ -1,4 +1,6 @@
 // Numbers and parts out of the file's bytes, and texts compared. Total: what is outside the file reads 0.
+#![tactic(auto)]
+
 ghost use Rattle.std.specs.Prelude.{◌≡◌, ◌<◌, length, drop};
 ghost use Rattle.definition.specs.Texts.{same, begins, contains};
 ghost use Rattle.definition.specs.Words.{word, long, part};

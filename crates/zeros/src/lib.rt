@@ -1,4 +1,6 @@
 // Lent tables emptied: zeros, whatever stood there.
+#![tactic(auto)]
+
 ghost use Rattle.std.specs.Prelude.{◌≡◌, length, replicate};
 
 pub fn clear_bytes(table: &mut [u8])

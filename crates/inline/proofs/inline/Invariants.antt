@@ -1,0 +1,16 @@
+-- The table has what the blocks before b place, and `first` is where b begins; at the end, from zeros on, it has what all blocks place.
+use Prim.Native.Nat.{◌-◌, ◌≤◌}
+use mathlib.Core.Path.{◌≡◌}
+use lib.ListN.{length}
+use Rattle.definition.specs.Lists.{gather, range}
+use Rattle.definition.specs.Owners.{first_stmt}
+use Rattle.definition.specs.Contents.{size}
+use Rattle.definition.specs.Edition.{Edition, blocks}
+use Rattle.inline.specs.Placing.{Adds, placed_in}
+use Rattle.inline.proofs.inline.Given as goal
+
+abbrev pub invariant-loop-b : goal.invariant-loop-b
+invariant-loop-b l = (Adds l.f (length l.numbers) (λ (E : Edition). gather (placed_in E l.f) (range 0 (l.b - 0))) l.initial.places l.places) × (l.first ≡ first_stmt l.f l.b) × (l.n ≡ size l.f blocks) × (l.b ≤ l.n) × (length l.places ≡ length l.initial.places)
+
+abbrev pub decreases-loop-b : goal.decreases-loop-b
+decreases-loop-b l = l.n - l.b

@@ -1,0 +1,14 @@
+use mathlib.Core.Path.{refl, ◌∙◌}
+use Prim.Native.Nat.{◌-◌}
+use Rattle.reads.proofs.Visits.{run_turn, run_end}
+use Rattle.marks.proofs.Rooting.{class_is}
+use Rattle.marks.proofs.roots.mark_run.Goals as goal
+
+pub loop-j-init : goal.loop-j-init
+loop-j-init c = (refl, refl)
+
+pub loop-j-preserved : goal.loop-j-preserved
+loop-j-preserved c = (c.loop-j.invariant.0 ∙ run_turn _ _ _ _ _ _ _ _ _ _ c.loop-j-test.true c.at_u32-n.ensures c.at_u32-s.ensures (class_is _ _ _ _ _ c.at_u32.ensures c.put_u32.ensures), c.put_u32.auto.l ∙ c.loop-j.invariant.1)
+
+pub returns : goal.returns
+returns c = run_end _ _ _ _ _ _ _ _ c.loop-j-test.false c.loop-j.invariant.0

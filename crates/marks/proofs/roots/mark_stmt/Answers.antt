@@ -1,0 +1,15 @@
+-- A statement passed over marks nothing; any other reads the nodes that `order` has from its start up to the next one's.
+use mathlib.Core.Path.{ap}
+use Rattle.places.specs.declared.Places.{Places}
+use Rattle.reads.proofs.Visits.{exprs_low}
+use Rattle.marks.proofs.Rooting.{read_none, read_some}
+use Rattle.marks.proofs.roots.mark_stmt.Goals as goal
+
+pub returns-then-passed_over : goal.returns-then-passed_over
+returns-then-passed_over c = λ E k s e. read_none _ E _ k _ _ _ _ (c.passed_over.ensures E k s e) c.if-passed_over.true
+
+pub mark_run-requires : goal.mark_run-requires
+mark_run-requires c = exprs_low _ c.type_inv.f _ (ap (λ (p : Places). p.exprs) c.requires.ground.where_all)
+
+pub returns : goal.returns
+returns c = λ E k s e. read_some _ E _ k _ _ _ _ (c.passed_over.ensures E k s e) _ _ _ _ _ _ c.requires.ordered c.requires.ground.where_all c.requires.i_bound c.if-passed_over.false c.at_u32-a.ensures c.at_u32-b.ensures c.mark_run.ensures

@@ -1,0 +1,9 @@
+-- Where nothing is defined there is no spot and all stays; where one value is, naming it is the walk over its one spot.
+use Rattle.naming.proofs.Walking.{defined_none, defined_one}
+use Rattle.naming.proofs.statements.name_defined.Goals as goal
+
+pub returns-in-Nothing : goal.returns-in-Nothing
+returns-in-Nothing c = defined_none _ _ _ c.args.d (cc)
+
+pub returns-in-One : goal.returns-in-One
+returns-in-One c = defined_one _ _ _ c.args.d _ c.in-One.v (cc) c.name_key.ensures

@@ -1,0 +1,19 @@
+use Rattle.reads.proofs.Live.{live_done}
+use Rattle.reads.proofs.Visits.{exprs_low, live_start, live_turn, live_end}
+use mathlib.Core.Path.{refl, ap, ◌∙◌}
+use Rattle.places.specs.declared.Places.{Places}
+use Prim.Native.Nat.{◌-◌}
+use native.Mathlib.Omega.{arith}
+use Rattle.reads.proofs.live_reads.Goals as goal
+
+pub loop-i-init : goal.loop-i-init
+loop-i-init c = (live_start _ _ _ _ _ _ c.size_of-n.ensures, c.size_of-n.ensures, ap (λ (p : Places). p.exprs) c.places_of-p.ensures, refl)
+
+pub raise_stmt-requires : goal.raise_stmt-requires
+raise_stmt-requires c = let inv = c.loop-i.invariant in record { runs = c.requires.runs; base_bound = (exprs_low _ c.type_inv.f _ inv.2, omega arith) }
+
+pub loop-i-preserved : goal.loop-i-preserved
+loop-i-preserved c = let inv = c.loop-i.invariant in (inv.0 ∙ live_turn _ _ _ _ _ _ _ _ c.loop-i-test.true c.raise_stmt.ensures, inv.1, inv.2, c.raise_stmt.auto.tab ∙ inv.3)
+
+pub returns : goal.returns
+returns c = λ E. let inv = c.loop-i.invariant in live_end _ _ _ _ _ _ _ _ c.loop-i-test.false inv.0 ∙ live_done _ _ _ _ _ _ c.requires.numbers c.requires.runs c.type_inv.f c.type_inv.starts inv.2 E

@@ -1,0 +1,20 @@
+use Rattle.reads.proofs.LastReader.{readers_start, readers_turn, readers_end}
+use Rattle.reads.proofs.Visits.{exprs_low}
+use mathlib.Core.Path.{refl, ap, ◌∙◌}
+use Rattle.places.specs.declared.Places.{Places}
+use Prim.Native.Nat.{◌-◌}
+use native.Mathlib.Omega.{arith}
+use Rattle.reads.proofs.readers.Goals as goal
+
+pub loop-i-init : goal.loop-i-init
+loop-i-init c = let k = c.requires.numbers in (readers_start _ _ _ k.own k.room k.clear, c.size_of-n.ensures, ap (λ (p : Places). p.exprs) c.places_of-p.ensures, omega arith, refl)
+
+pub mark_stmt-requires : goal.mark_stmt-requires
+mark_stmt-requires c = let inv = c.loop-i.invariant in record { runs = c.requires.runs; base_bound = (exprs_low _ c.type_inv.f _ inv.2, omega arith) }
+
+pub loop-i-preserved : goal.loop-i-preserved
+loop-i-preserved c = let inv = c.loop-i.invariant in let k = c.requires.numbers in
+    (readers_turn _ _ k.own k.room c.type_inv.f _ k.are _ inv.2 _ _ _ inv.0 c.mark_stmt.ensures, inv.1, inv.2, omega arith, c.mark_stmt.auto.tab ∙ inv.4)
+
+pub returns : goal.returns
+returns c = let inv = c.loop-i.invariant in readers_end _ _ _ _ _ inv.1 inv.3 c.loop-i-test.false inv.0

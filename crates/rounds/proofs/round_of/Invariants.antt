@@ -1,0 +1,16 @@
+-- The definitions of the blocks below b have run and the walk stands before block b; at the end those of all blocks have.
+use Rattle.rounds.specs.Before.{Before}
+use Rattle.rounds.specs.Ran.{Ran}
+use Rattle.rounds.specs.Defs.{mine, defs_below}
+use Rattle.definition.specs.Contents.{text}
+use Rattle.definition.specs.Edition.{Edition}
+use lib.ListN.{length}
+use Prim.Native.Nat.{◌≤◌, ◌-◌}
+use mathlib.Core.Path.{◌≡◌}
+use Rattle.rounds.proofs.round_of.Given as goal
+
+abbrev pub invariant-loop-b : goal.invariant-loop-b
+invariant-loop-b l = (l.b ≤ l.n) × (length l.tab ≡ length l.initial.tab) × Before l.f l.b l.w × ((E : Edition) → text E ≡ l.t → Ran l.f (length l.numbers) (mine l.own (defs_below E l.f l.b)) l.initial.tab l.tab l.changed)
+
+abbrev pub decreases-loop-b : goal.decreases-loop-b
+decreases-loop-b l = l.n - l.b

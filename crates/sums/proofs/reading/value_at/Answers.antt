@@ -1,0 +1,6 @@
+-- The place has a value's number, and at that number the table says what is known of it.
+use Rattle.sums.proofs.Nodes.{value_is}
+use Rattle.sums.proofs.reading.value_at.Goals as goal
+
+pub returns : goal.returns
+returns c = value_is _ _ _ _ _ _ c.at_u32-v.ensures c.at_u64.ensures
