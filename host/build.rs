@@ -1,4 +1,4 @@
-//! Links the archives that `rt staticlib NAME` writes: the printer, and with the feature `pieces` its pieces.
+//! Links the archives of `lister_c` and the other static libraries, as .ci/run makes them: the printer, and with the feature `pieces` its pieces.
 
 fn main() {
     let archives = std::path::Path::new(env!("CARGO_MANIFEST_DIR")).join("../target/staticlib");

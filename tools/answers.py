@@ -244,7 +244,7 @@ def convert(crate, path, data, muts):
     folder = os.path.dirname(path)
     module = "Rattle." + crate + ".proofs." + os.path.relpath(folder, f"crates/{crate}/proofs").replace("/", ".")
     head, uses, decls = blocks(text)
-    uses = [u for u in uses if not re.search(r"\.(Statement\.\{statement\}|Tie as tie|Lts.*|Code.*)$", u)]
+    uses = [u for u in uses if not re.search(r"\.(Statement\.\{statement\}|Tie as tie|Lts[\w-]*( as \S+)?)$", u)]
     fn = Fn(data, muts)
     needs, invs, helpers = [], [], []
     for d in decls:
@@ -337,7 +337,7 @@ def convert(crate, path, data, muts):
 
 
 def muts_of():
-    """For each function of src/, by path: its &mut slice parameters, and all its &mut parameters."""
+    """For each function of src/, by path: its parameters that are slices, and those that are references."""
     found = {}
     for crate in os.listdir("crates"):
         base = f"crates/{crate}/src"
@@ -353,8 +353,8 @@ def muts_of():
                     text = f.read()
                 for m in re.finditer(r"\bfn (\w+)\(([^)]*)\)", text):
                     params = re.findall(r"(\w+): (&(?:mut )?[^,]+)", m[2])
-                    refs = [n for n, t in params if t.startswith("&mut")]
-                    slices = [n for n, t in params if t.startswith("&mut [")]
+                    refs = [n for n, t in params if t.startswith("&")]
+                    slices = [n for n, t in params if re.match(r"&(?:mut )?\[", t)]
                     found["::".join([crate] + mod + [m[1]])] = (slices, refs)
     return found
 

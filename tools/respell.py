@@ -138,7 +138,7 @@ def main():
 
         new = WORD.sub(one, text) if antt else turn_rust(text, one)
         new = re.sub(r"`([^`\n ]+)`", lambda m: "`" + ".".join(turned.get(p, p) for p in m[1].split(".")) + "`", new)
-        new = re.sub(r"\b(\w+) as \1\b", r"\1", new)
+        new = re.sub(r"\b(\w+) as \1\b(?!')", r"\1", new)
         if new != text:
             with open(path, "w", encoding="utf-8") as f:
                 f.write(new)

@@ -1,23 +1,24 @@
 // Prints the 22 words of a function file's table of contents, one to a line: the file on standard input.
 #![tactic(auto)]
 
-use libc::{STDIN_FILENO, STDOUT_FILENO};
+use input::read_full;
+use std::io;
+use std::io::Write;
 
-fn print_word(f: &[u8], at: usize) {
-    io::print_decimal(STDOUT_FILENO, words::word_at(f, at) as u64);
-    io::write_all(STDOUT_FILENO, b"\n");
+fn print_word<W: Write>(out: &mut W, f: &[u8], at: usize) -> io::Result<()> {
+    let word = words::word_at(f, at);
+    writeln!(out, "{word}")
 }
 
-fn print_words(f: &[u8]) {
-    let mut k: usize = 0;
-    while k < 22 {
-        print_word(f, 4 * k);
-        k += 1;
+fn print_words<W: Write>(out: &mut W, f: &[u8]) -> io::Result<()> {
+    for k in 0..22usize {
+        print_word(out, f, 4 * k)?;
     }
+    Ok(())
 }
 
-fn main() {
-    let mut buf = io::large_buffer();
-    let n = io::read_full(STDIN_FILENO, &mut buf);
-    print_words(&buf[..n]);
+fn main(rt: HostRuntime) -> io::Result<()> {
+    let mut buf = [0u8; 65536];
+    let n = read_full(&mut rt.reader(), &mut buf)?;
+    print_words(&mut io::writer(&rt), &buf[..n])
 }

@@ -69,8 +69,7 @@ pub fn number_of(v: Verdict) -> u32
 }
 
 // The reader for a host: the first refusal of 1 to 6, or 0.
-#[unsafe(no_mangle)]
-pub extern "C" fn sorkhelaw_check(f: &[u8], owners: &mut [u32]) -> u32
+pub fn sorkhelaw_check(f: &[u8], owners: &mut [u32]) -> u32
     ensures { Checked f.now result owners.old owners.new }
 {
     number_of(check_file(f, owners))

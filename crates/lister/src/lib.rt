@@ -11,8 +11,7 @@ use lowered::sorkhelaw_lowered;
 use structured::structured;
 
 // Once the tables have served lowering, two of them serve structuring: `keys` for its rows, `offs` for its spans.
-#[unsafe(no_mangle)]
-pub extern "C" fn sorkhelaw_list(
+pub fn sorkhelaw_list(
     f: &[u8],
     lines: &mut [u64],
     tokens: &mut [u64],

@@ -15,8 +15,7 @@ use lent::lengths::{first_refusal, low_fits};
 use tables::sorkhelaw_tables;
 
 // `ready`: whatever else the caller lends has its length. All tables end as zeros.
-#[unsafe(no_mangle)]
-pub extern "C" fn sorkhelaw_lowered(
+pub fn sorkhelaw_lowered(
     f: &[u8],
     lines: &mut [u64],
     tokens: &mut [u64],

@@ -12,7 +12,7 @@ use Rattle.definition.specs.Values.{Value, value}
 use Rattle.definition.specs.Meaning.{phi_value, assigned, call_returns, value_at}
 use Rattle.definition.specs.Read.{marked}
 use Rattle.definition.proofs.Runs.{run_then}
-use Rattle.defined.specs.declared.value.Value.{Value'}
+use Rattle.defined.specs.declared.value.Value.{Value as Value'}
 use Rattle.defined.specs.declared.value.Defined.{Defined}
 use Rattle.defined.specs.declared.value.Defined.TheVariants.{Nothing, One}
 use Rattle.defined.specs.Defined.{value_of, list_of, item_value}

@@ -4,91 +4,104 @@
 use digits::hex_upper;
 use leaf::Wrote;
 use lent::answer::Answer;
-use libc::STDOUT_FILENO;
 use lister::sorkhelaw_list;
 use sheet::tokens::start_at;
+use std::io;
+use std::io::Write;
 
 // The numbers of a line: whether it has an address, the address, its indent, the end of its tokens, 0.
 const ROW: usize = 5;
 
-fn say(text: &[u8]) {
-    io::write_all(STDOUT_FILENO, text);
+fn say<W: Write>(out: &mut W, text: &[u8]) -> io::Result<()> {
+    out.write_all(text)
 }
 
-fn say_number(text: &[u8], n: u64) {
-    say(text);
-    io::print_decimal(STDOUT_FILENO, n);
+fn say_number<W: Write>(out: &mut W, text: &[u8], n: u64) -> io::Result<()> {
+    say(out, text)?;
+    write!(out, "{n}")
 }
 
 // The bytes from a place to another, where they are there.
-fn say_between(text: &[u8], from: usize, to: usize) {
+fn say_between<W: Write>(out: &mut W, text: &[u8], from: usize, to: usize) -> io::Result<()> {
     if to < from {
-        return;
+        return Ok(());
     }
     if text.len() < to {
-        return;
+        return Ok(());
     }
-    say(&text[from..to]);
+    say(out, &text[from..to])
 }
 
-fn say_address(a: u64) {
+fn say_address<W: Write>(out: &mut W, a: u64) -> io::Result<()> {
     let mut digits = [0u8; 16];
     if let Wrote::Bytes(n) = hex_upper(&mut digits, a) {
-        say_between(&digits, 0, n);
+        say_between(out, &digits, 0, n)?;
     }
+    Ok(())
 }
 
 // The address and the indent of a line, by its numbers.
-fn say_front(row: &[u64]) {
+fn say_front<W: Write>(out: &mut W, row: &[u64]) -> io::Result<()> {
     if row.len() < ROW {
-        return;
+        return Ok(());
     }
     if row[0] == 0 {
-        say(b"-");
+        say(out, b"-")?;
     } else {
-        say_address(row[1]);
+        say_address(out, row[1])?;
     }
-    say_number(b" ", row[2]);
-    say(b" ");
+    say_number(out, b" ", row[2])?;
+    say(out, b" ")
 }
 
 // A line's text goes from the end of the one before it to the end of its own tokens.
-fn say_lines(lines: &[u64], tokens: &[u64], text: &[u8]) {
+fn say_lines<W: Write>(out: &mut W, lines: &[u64], tokens: &[u64], text: &[u8]) -> io::Result<()> {
     let mut from = 0;
-    let mut at = 0;
-    while ROW <= lines.len() - at {
-        say_front(&lines[at..at + ROW]);
-        let to = start_at(tokens, lines[at + 3] as usize);
-        say_between(text, from, to);
-        say(b"\n");
+    for row in lines.chunks_exact(ROW) {
+        say_front(out, row)?;
+        let to = start_at(tokens, row[3] as usize);
+        say_between(out, text, from, to)?;
+        say(out, b"\n")?;
         from = to;
-        at += ROW;
     }
+    Ok(())
 }
 
-fn say_header(a: Answer) {
-    say_number(b"ifs ", a.ifs as u64);
-    say_number(b" loops ", a.loops as u64);
-    say_number(b" lines ", a.lines as u64);
-    say_number(b" tests ", a.tests as u64);
-    say(b"\n");
+fn say_header<W: Write>(out: &mut W, a: Answer) -> io::Result<()> {
+    say_number(out, b"ifs ", a.ifs as u64)?;
+    say_number(out, b" loops ", a.loops as u64)?;
+    say_number(out, b" lines ", a.lines as u64)?;
+    say_number(out, b" tests ", a.tests as u64)?;
+    say(out, b"\n")
 }
 
 // The lines that were counted are the first of the lent ones.
-fn say_listing(a: Answer, lines: &[u64], tokens: &[u64], text: &[u8]) {
-    say_header(a);
+fn say_listing<W: Write>(
+    out: &mut W,
+    a: Answer,
+    lines: &[u64],
+    tokens: &[u64],
+    text: &[u8],
+) -> io::Result<()> {
+    say_header(out, a)?;
     if a.lines <= lines.len() / ROW {
-        say_lines(&lines[0..ROW * a.lines], tokens, text);
+        say_lines(out, &lines[0..ROW * a.lines], tokens, text)?;
     }
+    Ok(())
 }
 
-fn say_answer(a: Answer, lines: &[u64], tokens: &[u64], text: &[u8]) {
+fn say_answer<W: Write>(
+    out: &mut W,
+    a: Answer,
+    lines: &[u64],
+    tokens: &[u64],
+    text: &[u8],
+) -> io::Result<()> {
     if a.number == 0 {
-        say_listing(a, lines, tokens, text);
-        return;
+        return say_listing(out, a, lines, tokens, text);
     }
-    say_number(b"refused ", a.number as u64);
-    say(b"\n");
+    say_number(out, b"refused ", a.number as u64)?;
+    say(out, b"\n")
 }
 
 // All scratch is made here.
@@ -135,10 +148,10 @@ fn list(f: &[u8], lines: &mut [u64], tokens: &mut [u64], text: &mut [u8]) -> Ans
     )
 }
 
-pub fn print_listing(f: &[u8]) {
+pub fn print_listing<W: Write>(out: &mut W, f: &[u8]) -> io::Result<()> {
     let mut lines = [0u64; 7680];
     let mut tokens = [0u64; 6144];
     let mut text = [0u8; 32768];
     let a = list(f, &mut lines, &mut tokens, &mut text);
-    say_answer(a, &lines, &tokens, &text);
+    say_answer(out, a, &lines, &tokens, &text)
 }

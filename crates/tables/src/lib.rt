@@ -68,8 +68,7 @@ fn judge(
 }
 
 // The first refusal of 1 to 7 with zeros in all tables, or 0 with what the file's values and blocks are.
-#[unsafe(no_mangle)]
-pub extern "C" fn sorkhelaw_tables(
+pub fn sorkhelaw_tables(
     f: &[u8],
     keys: &mut [u64],
     numbers: &mut [u32],

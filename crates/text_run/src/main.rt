@@ -3,79 +3,80 @@
 
 use digits::{HALF, num, pointer, slot};
 use leaf::{Wrote, copy};
-use libc::STDOUT_FILENO;
+use std::io;
+use std::io::Write;
 use text::names::{global_name, is_global};
 
-fn first(n: usize, line: &[u8]) {
+fn first<W: Write>(out: &mut W, n: usize, line: &[u8]) -> io::Result<()> {
     if n <= line.len() {
-        io::write_all(STDOUT_FILENO, &line[0..n]);
+        out.write_all(&line[0..n])?;
     }
+    Ok(())
 }
 
 // What was written, at the start of the line's room.
-fn put(w: Wrote, line: &[u8]) {
+fn put<W: Write>(out: &mut W, w: Wrote, line: &[u8]) -> io::Result<()> {
     let Wrote::Bytes(n) = w else {
-        io::write_all(STDOUT_FILENO, b"no room");
-        return;
+        return out.write_all(b"no room");
     };
-    first(n, line);
+    first(out, n, line)
 }
 
-fn end() {
-    io::write_all(STDOUT_FILENO, b"\n");
+fn end<W: Write>(out: &mut W) -> io::Result<()> {
+    out.write_all(b"\n")
 }
 
-fn number(bits: u64) {
+fn number<W: Write>(out: &mut W, bits: u64) -> io::Result<()> {
     let mut line = [0u8; 32];
     let w = num(&mut line, bits);
-    put(w, &line);
-    end();
+    put(out, w, &line)?;
+    end(out)
 }
 
-fn offset(s: u64) {
+fn offset<W: Write>(out: &mut W, s: u64) -> io::Result<()> {
     let mut line = [0u8; 32];
     let w = slot(&mut line, s);
-    put(w, &line);
-    end();
+    put(out, w, &line)?;
+    end(out)
 }
 
 // A four-byte load from the constant c that is no global, piece by piece.
-fn through(c: u64) {
+fn through<W: Write>(out: &mut W, c: u64) -> io::Result<()> {
     let mut line = [0u8; 32];
     let a = pointer(&mut line, 4);
-    put(a, &line);
+    put(out, a, &line)?;
     let b = copy(&mut line, b"(");
-    put(b, &line);
+    put(out, b, &line)?;
     let n = num(&mut line, c);
-    put(n, &line);
+    put(out, n, &line)?;
     let e = copy(&mut line, b")");
-    put(e, &line);
-    end();
+    put(out, e, &line)?;
+    end(out)
 }
 
 // The same from any constant, in a file without names.
-fn load(c: u64) {
+fn load<W: Write>(out: &mut W, c: u64) -> io::Result<()> {
     if is_global(c) {
         let mut line = [0u8; 32];
         let w = global_name(&mut line, b"", 8, c, 4);
-        put(w, &line);
-        end();
-        return;
+        put(out, w, &line)?;
+        return end(out);
     }
-    through(c);
+    through(out, c)
 }
 
-fn main() {
+fn main(rt: HostRuntime) -> io::Result<()> {
+    let mut out = io::writer(&rt);
     // -10, -9, 9, 10 and -2^63
-    number(0xFFFF_FFFF_FFFF_FFF6);
-    number(0xFFFF_FFFF_FFFF_FFF7);
-    number(9);
-    number(10);
-    number(HALF);
+    number(&mut out, 0xFFFF_FFFF_FFFF_FFF6)?;
+    number(&mut out, 0xFFFF_FFFF_FFFF_FFF7)?;
+    number(&mut out, 9)?;
+    number(&mut out, 10)?;
+    number(&mut out, HALF)?;
     // -16, 0 and 8
-    offset(HALF - 16);
-    offset(HALF);
-    offset(HALF + 8);
-    load(0xFFF);
-    load(0x1000);
+    offset(&mut out, HALF - 16)?;
+    offset(&mut out, HALF)?;
+    offset(&mut out, HALF + 8)?;
+    load(&mut out, 0xFFF)?;
+    load(&mut out, 0x1000)
 }

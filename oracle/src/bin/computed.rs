@@ -40,9 +40,9 @@ fn run(args: &[String]) -> Result<String, String> {
     }
     let list: Vec<String> = numbers.iter().map(|n| format!("pair{n} ∷ ")).collect();
     let home = crate_name == HOME;
-    let (prefix, pair, agrees) = if home { ("Rattle·definition·specs.specs", PAIR, AGREES) } else { ("Rattle·definition.specs", "", "") };
+    let (pair, agrees) = if home { (PAIR, AGREES) } else { ("", "") };
     let head = if home { HEAD_HOME } else { HEAD_ABOVE };
-    let (uses, names) = definitions(Path::new(specs), prefix)?;
+    let (uses, names) = definitions(Path::new(specs))?;
     Ok(format!(
         "{HEAD}{head}{uses}\n{pair}{cases}{agrees}{CASES}{}[]\n\n{STATEMENT}unfolding agrees cases {names}\ncomputed = refl\n",
         list.concat()
@@ -64,7 +64,7 @@ fn files_of(bytes: &[u8]) -> Option<Vec<&[u8]>> {
 }
 
 /// Every `unfoldable` definition of the modules that SPECS/Lib.antt lists, in their order: the `use` lines, and all names.
-fn definitions(specs: &Path, prefix: &str) -> Result<(String, String), String> {
+fn definitions(specs: &Path) -> Result<(String, String), String> {
     let text = |name: &str| {
         let path = specs.join(format!("{name}.antt"));
         std::fs::read_to_string(&path).map_err(|e| format!("{}: {e}", path.display()))
@@ -76,7 +76,7 @@ fn definitions(specs: &Path, prefix: &str) -> Result<(String, String), String> {
         let declared = body.lines().filter_map(|l| l.strip_prefix("unfoldable pub ")).filter_map(|l| l.split(' ').next());
         let names: Vec<&str> = declared.filter(|n| !all.iter().any(|a| a == n)).collect();
         if !names.is_empty() {
-            let _ = writeln!(uses, "use {prefix}.{module}.{{{}}}", names.join(", "));
+            let _ = writeln!(uses, "use Rattle.{HOME}.specs.{module}.{{{}}}", names.join(", "));
         }
         all.extend(names.iter().map(|n| n.to_string()));
     }
@@ -97,7 +97,7 @@ fn case(n: &str, file: &[u8]) -> String {
     let behind = vec![0u64; BEHIND];
     let file: Vec<u64> = file.iter().map(|b| u64::from(*b)).collect();
     format!(
-        "abbrev pair{n} : Pair\npair{n} = record {{\n  file = {};\n  answer = record {{\n    number = {number}; lines = {count}; tokens = {}; bytes = {}; ifs = {ifs}; loops = {loops}; tests = {tests};\n    lineBuffer = {};\n    tokenBuffer = {};\n    textBuffer = txt \"{}\" ++ ({}) }} }}\n\n",
+        "abbrev pair{n} : Pair\npair{n} = record {{\n  file = {};\n  answer = record {{\n    number = {number};\n    lines = {count};\n    tokens = {};\n    bytes = {};\n    ifs = {ifs};\n    loops = {loops};\n    tests = {tests};\n    line_buffer = {};\n    token_buffer = {};\n    text_buffer = txt \"{}\" ++ ({});\n  }};\n}}\n\n",
         numbers(&file),
         tokens.len(),
         text.len(),
@@ -129,21 +129,21 @@ fn numbers(l: &[u64]) -> String {
 
 const HEAD: &str = "-- Small files and the oracle's answers to them: the definition computes each answer, refusals and buffers too.
 -- Written by oracle/src/bin/computed.rs (vectors/README.md says how), not by hand.
-use mathlib.Core.Path.{_≡_, refl}
-use mathlib.Core.List.{List, [], _∷_, _++_}
+use mathlib.Core.Path.{◌≡◌, refl}
+use mathlib.Core.List.{List, [], ◌∷◌, ◌++◌}
 ";
 
-const HEAD_HOME: &str = "use mathlib.Core.Bool.{Bool, true, _&&_}
+const HEAD_HOME: &str = "use mathlib.Core.Bool.{Bool, true, ◌&&◌}
 use Prim.Native.Nat.{ℕ}
 use lib.Dec.{eqb}
 use lib.ListN.{length}
-use Rattle·definition·specs.specs.Texts.{txt}
-use Rattle·definition·specs.specs.Listing.{Result}
+use Rattle.definition.specs.Texts.{txt}
+use Rattle.definition.specs.Listing.{Result}
 ";
 
 const HEAD_ABOVE: &str = "use mathlib.Core.Bool.{true}
-use Rattle·definition.specs.Texts.{txt}
-use Rattle·definition.proofs.Computed.{Pair, agrees}
+use Rattle.definition.specs.Texts.{txt}
+use Rattle.definition.proofs.Computed.{Pair, agrees}
 ";
 
 const PAIR: &str = "pub record Pair : Type 0 where
@@ -155,11 +155,11 @@ const PAIR: &str = "pub record Pair : Type 0 where
 const AGREES: &str = "-- the answer of the definition, with buffers as long as those expected
 unfoldable pub agrees : Pair → Bool
 agrees p =
-    let w = p .answer in
-    let r = resultOf (record { lines = length (w .lineBuffer); tokens = length (w .tokenBuffer); text = length (w .textBuffer) }) (list edition1 (p .file)) in
-    eqb (r .number) (w .number) && eqb (r .lines) (w .lines) && eqb (r .tokens) (w .tokens) && eqb (r .bytes) (w .bytes)
-    && eqb (r .ifs) (w .ifs) && eqb (r .loops) (w .loops) && eqb (r .tests) (w .tests)
-    && same (r .lineBuffer) (w .lineBuffer) && same (r .tokenBuffer) (w .tokenBuffer) && same (r .textBuffer) (w .textBuffer)
+    let w = p.answer in
+    let r = result_of (record { lines = length w.line_buffer; tokens = length w.token_buffer; text = length w.text_buffer }) (list edition1 p.file) in
+    eqb r.number w.number && eqb r.lines w.lines && eqb r.tokens w.tokens && eqb r.bytes w.bytes
+    && eqb r.ifs w.ifs && eqb r.loops w.loops && eqb r.tests w.tests
+    && same r.line_buffer w.line_buffer && same r.token_buffer w.token_buffer && same r.text_buffer w.text_buffer
 
 ";
 

@@ -1,5 +1,5 @@
 -- The classes come from keys and numbers, what is written in place from the reads; the roots' table is as long as the numbers, as is asked.
-use Rattle.analyses.proofs.Gathered.{for_classes, for_inline, all_placed}
+use Rattle.analyses.proofs.Gathered.{for_classes, for_inline, all_placed_lem}
 use Rattle.analyses.proofs.variables.Goals as goal
 
 pub classes-requires : goal.classes-requires
@@ -9,4 +9,4 @@ pub inline-requires : goal.inline-requires
 inline-requires c = record { told = for_inline _ _ _ _ _ _ _ c.requires.shared; places_value = c.requires.unplaced.no_places }
 
 pub returns : goal.returns
-returns c = all_placed _ _ _ _ _ c.requires.unplaced.as_roots c.classes.ensures c.inline.ensures
+returns c = all_placed_lem _ _ _ _ _ c.requires.unplaced.as_roots c.classes.ensures c.inline.ensures

@@ -3,7 +3,7 @@ use Prim.Native.Nat.{◌-◌, ◌≤◌}
 use mathlib.Core.Path.{refl, ◌∙◌}
 use Rattle.definition.specs.Edition.{Edition}
 use Rattle.inline.specs.Placing.{placed_in}
-use Rattle.inline.proofs.Adding.{run_start, run_turn, stmts_start, stmts_turn, block_inside, block_small, block_placed, all_placed}
+use Rattle.inline.proofs.Adding.{run_start, run_turn, stmts_start, stmts_turn, block_inside, block_small, block_placed, all_placed_lem}
 use Rattle.inline.proofs.inline.Goals as goal
 
 pub loop-b-init : goal.loop-b-init
@@ -21,4 +21,4 @@ loop-b-preserved c = let inv = c.loop-b.invariant in
     (run_turn _ _ (λ (E : Edition). placed_in E _) _ _ _ _ _ z inv.0 (block_placed _ _ _ _ inv.1 c.block_stmts.ensures _ _ _ c.place_block.ensures), stmts_turn _ _ _ _ inv.1 c.block_stmts.ensures, inv.2, omega arith, c.place_block.auto.places ∙ inv.4)
 
 pub returns : goal.returns
-returns c = all_placed _ _ _ _ _ _ _ _ _ _ c.requires.told c.requires.places_value c.loop-b.invariant.2 c.loop-b.invariant.3 c.loop-b-test.false c.loop-b.invariant.0
+returns c = all_placed_lem _ _ _ _ _ _ _ _ _ _ c.requires.told c.requires.places_value c.loop-b.invariant.2 c.loop-b.invariant.3 c.loop-b-test.false c.loop-b.invariant.0

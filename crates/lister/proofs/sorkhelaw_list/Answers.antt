@@ -3,8 +3,6 @@ use Rattle.lister.proofs.Whole.{lowers, lists}
 use Rattle.tables.specs.Tables.{tables_of}
 use Rattle.lister.proofs.sorkhelaw_list.Goals as goal
 
--- TODO step fits2
--- TODO ref new.1.1.1.1.1.1.1.1.1.1.1.1.1.1.1.1.1.0
 pub structured-a-requires : goal.structured-a-requires
 structured-a-requires c =
     let a = c.args in
@@ -12,11 +10,9 @@ structured-a-requires c =
     let blank = c.clear_sheet in
     lowers a.f.now c.type_inv.f a.lines.now a.tokens.now a.text.now blank.new.lines blank.new.tokens blank.new.text blank.ensures _ c.fits-ready.ensures
     (tables_of a.keys.now a.numbers.now a.spare.now a.offs.now a.order.now a.starts.now a.loads.now a.live.now a.phi.now a.roots.now a.places.now a.names.now a.marks.now a.labels.now)
-    (tables_of low.new.numbers low.new.spare low.new.offs low.new.order low.new.starts low.new.loads low.new.live low.new.phi low.new.roots low.new.places low.new.names low.new.marks low.new.labels low.new.1.1.1.1.1.1.1.1.1.1.1.1.1.1.1.1.1.0)
-    a.low_lines_lem.now a.low_tokens_lem.now a.low_text_lem.now _ low.new.tokens low.new.text low.new.keys low.ensures
+    (tables_of low.new.keys low.new.numbers low.new.spare low.new.offs low.new.order low.new.starts low.new.loads low.new.live low.new.phi low.new.roots low.new.places low.new.names low.new.marks low.new.labels)
+    a.low_lines.now a.low_tokens.now a.low_text.now _ low.new.lines low.new.tokens low.new.text low.ensures
 
--- TODO step fits2
--- TODO ref new.1.1.1.1.1.1.1.1.1.1.1.1.1.1.1.1.1.0
 pub returns : goal.returns
 returns c =
     let a = c.args in
@@ -26,7 +22,7 @@ returns c =
     let wiped = c.clear_sheet-2 in
     lists a.f.now c.type_inv.f a.lines.now a.tokens.now a.text.now blank.new.lines blank.new.tokens blank.new.text blank.ensures _ c.fits-ready.ensures
     (tables_of a.keys.now a.numbers.now a.spare.now a.offs.now a.order.now a.starts.now a.loads.now a.live.now a.phi.now a.roots.now a.places.now a.names.now a.marks.now a.labels.now)
-    (tables_of low.new.numbers low.new.spare low.new.offs low.new.order low.new.starts low.new.loads low.new.live low.new.phi low.new.roots low.new.places low.new.names low.new.marks low.new.labels low.new.1.1.1.1.1.1.1.1.1.1.1.1.1.1.1.1.1.0)
-    a.low_lines_lem.now a.low_tokens_lem.now a.low_text_lem.now _ low.new.tokens low.new.text low.new.keys low.ensures
+    (tables_of low.new.keys low.new.numbers low.new.spare low.new.offs low.new.order low.new.starts low.new.loads low.new.live low.new.phi low.new.roots low.new.places low.new.names low.new.marks low.new.labels)
+    a.low_lines.now a.low_tokens.now a.low_text.now _ low.new.lines low.new.tokens low.new.text low.ensures
     _ done.new.lines done.new.tokens done.new.text done.new.rows done.new.spans wiped.new.lines wiped.new.tokens wiped.new.text
-    done.ensures wiped.ensures low.auto.tokens low.auto.text low.auto.keys
+    done.ensures wiped.ensures low.auto.lines low.auto.tokens low.auto.text

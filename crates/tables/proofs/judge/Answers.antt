@@ -15,11 +15,11 @@ returns-then-n-ne0 c =
     let given = c.args in
     stopped given.f.now (tables_of given.keys.now given.numbers.now given.spare.now given.offs.now given.order.now given.starts.now given.loads.now given.live.now given.phi.now given.roots.now given.places.now given.names.now given.marks.now given.labels.now) c.requires _ c.are_long.ensures (ap not c.if-not-are_long.false) _ _ _ c.check_file.ensures c.number_of-n.ensures c.if-n-ne0.true
 
--- TODO clauses ['sound', 'blank'] of over_fronts-requires
 pub over_fronts-requires : goal.over_fronts-requires
 over_fronts-requires c =
     let given = c.args in
-    passes given.f.now (tables_of given.keys.now given.numbers.now given.spare.now given.offs.now given.order.now given.starts.now given.loads.now given.live.now given.phi.now given.roots.now given.places.now given.names.now given.marks.now given.labels.now) c.requires _ c.are_long.ensures (ap not c.if-not-are_long.false) _ _ _ c.check_file.ensures c.number_of-n.ensures c.if-n-ne0.false
+    let q = passes given.f.now (tables_of given.keys.now given.numbers.now given.spare.now given.offs.now given.order.now given.starts.now given.loads.now given.live.now given.phi.now given.roots.now given.places.now given.names.now given.marks.now given.labels.now) c.requires _ c.are_long.ensures (ap not c.if-not-are_long.false) _ _ _ c.check_file.ensures c.number_of-n.ensures c.if-n-ne0.false in
+    record { sound = q.0; blank = q.1 }
 
 pub returns : goal.returns
 returns c =

@@ -1,11 +1,11 @@
 use native.Mathlib.Omega.{arith}
 use Prim.Native.Nat.{◌-◌}
 use Rattle.words.proofs.Parts.{size_most}
-use Rattle.calls.proofs.Trims.{trim_start, trim_more, trim_done}
+use Rattle.calls.proofs.Trims.{trim_start_lem, trim_more, trim_done}
 use Rattle.calls.proofs.trim.trim_sub.Goals as goal
 
 pub loop-k-init : goal.loop-k-init
-loop-k-init c = trim_start _ _ _
+loop-k-init c = trim_start_lem _ _ _
 
 pub overflow_add-at : goal.overflow_add-at
 overflow_add-at c = let a = c.args in omega (arith, size_most a.f.now a.at a.n)

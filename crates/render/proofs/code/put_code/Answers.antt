@@ -1,4 +1,5 @@
 -- Codes 0 and 1 say the register's own name; above them an even code is a parameter and an odd one a local, each of half the code.
+use Rattle.render.proofs.Coded.{own_name, letter_a, letter_v}
 use Rattle.room.proofs.Laws.{piece_as}
 use Rattle.render.proofs.code.put_code.Goals as goal
 

@@ -14,7 +14,7 @@ pub below-form_of-requires : goal.below-form_of-requires
 below-form_of-requires t c = record { ground = c.requires.told.ground; offs_value = c.requires.told.known }
 
 pub below-overflow_add-place : goal.below-overflow_add-place
-below-overflow_add-place t c = omega (arith, below_place _ _ _ c.requires.b_bound c.if-at.false _ _ c.requires.told.ground, c.well-formed.1.1.1.1.0)
+below-overflow_add-place t c = omega (arith, below_place _ _ _ c.requires.b_bound c.if-at.false _ _ c.requires.told.ground, c.well_formed.1.1.1.1.0)
 
 pub below-value-requires : goal.below-value-requires
 below-value-requires t c = (falls_value _ _ _ _ c.decreases c.if-at.false, (c.requires.told, below_named _ _ _ c.requires.b_bound c.if-at.false _ _ c.requires.told.ground _ _ c.form_of.ensures _ c.in-Use.is c.type_inv.f))
@@ -44,22 +44,22 @@ pub below-returns-in-Through : goal.below-returns-in-Through
 below-returns-in-Through t c = below_form _ _ _ _ _ _ c.requires.b_bound c.if-at.false _ c.form_of.ensures _ _ _ c.in-Through.is c.through.ensures
 
 pub binary-below-out-requires : goal.binary-below-out-requires
-binary-below-out-requires t c = (falls_child _ _ _ c.decreases, c.requires)
+binary-below-out-requires t c = (falls_child _ _ _ c.decreases, (c.requires.told, c.requires.n_bound))
 
 pub binary-below-out-requires-2 : goal.binary-below-out-requires-2
-binary-below-out-requires-2 t c = (falls_child _ _ _ c.decreases, c.requires)
+binary-below-out-requires-2 t c = (falls_child _ _ _ c.decreases, (c.requires.told, c.requires.n_bound))
 
 pub binary-returns : goal.binary-returns
 binary-returns t c = binary_is _ _ _ _ _ _ _ _ _ _ _ _ c.put_if-out.ensures c.below-out.ensures c.put_operator-out.ensures c.below-out-2.ensures c.put_if.ensures
 
 pub through-below-out-requires : goal.through-below-out-requires
-through-below-out-requires t c = (falls_child _ _ _ c.decreases, c.requires)
+through-below-out-requires t c = (falls_child _ _ _ c.decreases, (c.requires.told, c.requires.n_bound))
 
 pub through-returns : goal.through-returns
 through-returns t c = through_is _ _ _ _ _ _ _ _ _ _ c.put_cast-out.ensures c.below-out.ensures c.put.ensures
 
 pub unary-below-requires : goal.unary-below-requires
-unary-below-requires t c = (falls_child _ _ _ c.decreases, c.requires)
+unary-below-requires t c = (falls_child _ _ _ c.decreases, (c.requires.told, c.requires.n_bound))
 
 pub unary-returns : goal.unary-returns
 unary-returns t c = unary_is _ _ _ _ _ _ _ _ _ c.put_text-out.ensures c.below.ensures

@@ -1,10 +1,10 @@
 use native.Mathlib.Omega.{arith}
 use borrow.Author.Rules.{rules}
-use Rattle.render.proofs.Trimming.{trim_start, trim_inside, trim_turn, trim_found, trim_done}
+use Rattle.render.proofs.Trimming.{trim_start_lem, trim_inside, trim_turn, trim_found, trim_done}
 use Rattle.render.proofs.operators.trimmed.Goals as goal
 
 pub loop-k-init : goal.loop-k-init
-loop-k-init c = trim_start _ _ _ _ c.part_size-k.ensures
+loop-k-init c = trim_start_lem _ _ _ _ c.part_size-k.ensures
 
 pub overflow_add-from : goal.overflow_add-from
 overflow_add-from c = omega (arith, c.loop-k.invariant.inside)

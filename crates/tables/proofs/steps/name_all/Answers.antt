@@ -14,6 +14,5 @@ pub mark-requires : goal.mark-requires
 mark-requires c = let pre = c.requires in
     record { grounded = pre.grounded; stacked = pre.stacked; rooted = (rooted_so _ _ pre.grounded _ _ c.variables.ensures).rooted; ordered = pre.read_as.flat; unmarked = unmarked_still _ _ pre.grounded _ _ _ _ _ pre.unmarked c.name_variables.ensures }
 
--- TODO clauses ['called', 'entry_read'] of returns
 pub returns : goal.returns
-returns c = called _ _ c.requires.grounded _ _ _ _ _ _ _ c.variables.ensures c.name_variables.ensures c.mark.ensures
+returns c = let q = called _ _ c.requires.grounded _ _ _ _ _ _ _ c.variables.ensures c.name_variables.ensures c.mark.ensures in record { called = q.0; entry_read = q.1 }

@@ -2,9 +2,8 @@
 use Rattle.tables.proofs.Staging.{ground, unstacked, stacked}
 use Rattle.tables.proofs.steps.stack.Goals as goal
 
--- TODO clauses ['ground', 'keys_value', 'tab_value'] of offsets-requires
 pub offsets-requires : goal.offsets-requires
-offsets-requires c = unstacked _ _ c.requires.grounded _ _ c.requires.keys_value c.requires.offs_value
+offsets-requires c = let q = unstacked _ _ c.requires.grounded _ _ c.requires.keys_value c.requires.offs_value in record { ground = q.0; keys_value = q.1.0; tab_value = q.1.1 }
 
 pub refused7-requires : goal.refused7-requires
 refused7-requires c = ground _ _ c.requires.grounded
