@@ -1,36 +1,38 @@
 // Tables at any place: 0 is read outside, and nothing is written there.
 #![tactic(auto)]
 
-ghost use Rattle.std.specs.Prelude.{◌≡◌, set};
+ghost use Rattle.std.specs.Prelude.{◌≡◌, ℕ, List, set, slice_index_or};
 ghost use Rattle.definition.specs.Lists.{at};
+ghost use Rattle.slices.specs.Reading.{at_is};
 
-pub fn at_u32(l: &[u32], i: usize) -> u32
-    ensures { result ≡ at l.now i }
-{
-    if i < l.len() {
-        return l[i];
-    }
-    0
+use zeros::Zero;
+
+// A number that tables hold, and how the definition reads a list of them.
+pub trait Entry: Zero {
+    ghost at: { List Self → ℕ → Self };
+
+    ghost reads: { (l : List Self) (i : ℕ) → at l i ≡ slice_index_or l i Self.ZERO };
 }
 
-pub fn at_u64(l: &[u64], i: usize) -> u64
-    ensures { result ≡ at l.now i }
-{
-    if i < l.len() {
-        return l[i];
-    }
-    0
+impl Entry for u32 {
+    ghost at = { at };
+
+    ghost reads = { at_is };
 }
 
-pub fn put_u32(l: &mut [u32], i: usize, x: u32)
-    ensures { l.new ≡ set l.old i x }
-{
-    if i < l.len() {
-        l[i] = x;
-    }
+impl Entry for u64 {
+    ghost at = { at };
+
+    ghost reads = { at_is };
 }
 
-pub fn put_u64(l: &mut [u64], i: usize, x: u64)
+pub fn at<T: Entry>(l: &[T], i: usize) -> T
+    ensures { result ≡ T.at l.now i }
+{
+    l.get(i).copied().unwrap_or(T::ZERO)
+}
+
+pub fn put<T: Entry>(l: &mut [T], i: usize, x: T)
     ensures { l.new ≡ set l.old i x }
 {
     if i < l.len() {

@@ -2,33 +2,44 @@
 #![tactic(auto)]
 
 ghost use Rattle.std.specs.Prelude.{◌≡◌, length, replicate};
+ghost use Rattle.std.proofs.Common.{rules};
 
-pub fn clear_bytes(table: &mut [u8])
-    ensures { table.new ≡ replicate (length table.old) 0 }
-{
-    let mut at = 0;
-    while at < table.len() {
-        table[at] = 0;
-        at += 1;
-    }
+// A number of a table: 0 is what stands where nothing is said.
+pub trait Zero: Copy {
+    ghost ZERO: { Self };
+
+    const ZERO: Self;
+
+    // Every copy is made, and is the number itself.
+    ghost copies: { (x : Self) → Self.is_infallible x × ((y : Self) → Self.is_clone x y → y ≡ x) };
 }
 
-pub fn clear_words(table: &mut [u32])
-    ensures { table.new ≡ replicate (length table.old) 0 }
-{
-    let mut i = 0;
-    while i < table.len() {
-        table[i] = 0;
-        i += 1;
-    }
+impl Zero for u8 {
+    ghost ZERO = { 0 };
+
+    const ZERO: u8 = 0;
+
+    ghost copies = { λ x. (tt, λ y e. e) };
 }
 
-pub fn clear_longs(table: &mut [u64])
-    ensures { table.new ≡ replicate (length table.old) 0 }
+impl Zero for u32 {
+    ghost ZERO = { 0 };
+
+    const ZERO: u32 = 0;
+
+    ghost copies = { λ x. (tt, λ y e. e) };
+}
+
+impl Zero for u64 {
+    ghost ZERO = { 0 };
+
+    const ZERO: u64 = 0;
+
+    ghost copies = { λ x. (tt, λ y e. e) };
+}
+
+pub fn clear<T: Zero>(table: &mut [T])
+    ensures { table.new ≡ replicate (length table.old) T.ZERO }
 {
-    let mut i = 0;
-    while i < table.len() {
-        table[i] = 0;
-        i += 1;
-    }
+    table.fill(T::ZERO);
 }
