@@ -16,7 +16,7 @@ use reads::is_read;
 use records::owners::stmt_field;
 use render::code::put_code;
 use room::out::Out;
-use slices::at_u32;
+use slices::get;
 
 // `NAME = `, of a value in register `reg` whose name has this code.
 fn put_setting(tokens: &mut [u64], text: &mut [u8], out: Out, bits: u32, reg: u32, code: u32) -> Out
@@ -48,10 +48,10 @@ pub fn put_result(
     if stmt_field(f, i, 3) != 1 {
         return out;
     }
-    let m = at_u32(numbers, places.stmts + i as usize) as usize;
+    let m = get(numbers, places.stmts + i as usize) as usize;
     if is_read(live, phi, m) {
         let reg = stmt_field(f, i, 4);
-        return put_setting(tokens, text, out, bits_of(f), reg, at_u32(names, m));
+        return put_setting(tokens, text, out, bits_of(f), reg, get(names, m));
     }
     out
 }

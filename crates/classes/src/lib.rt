@@ -18,7 +18,7 @@ use defined::value::RSP;
 use places::places_of;
 use records::contents::{PHIS, size_of};
 use records::owners::phi_inputs;
-use slices::{at_u32, at_u64};
+use slices::get;
 use ssa::block::{Phi, phi_at};
 use unions::{flatten, reset, union};
 
@@ -30,7 +30,7 @@ fn join_run(roots: &mut [u32], keys: &[u64], numbers: &[u32], a: u32, k: usize, 
 {
     let mut j = 0;
     while j < n {
-        let b = at_u32(numbers, k + j as usize);
+        let b = get(numbers, k + j as usize);
         union(roots, keys, a, b);
         j += 1;
     }
@@ -53,7 +53,7 @@ fn join_phi(roots: &mut [u32], f: &[u8], keys: &[u64], numbers: &[u32], i: u32, 
     if of_rsp(phi) {
         return;
     }
-    let a = at_u32(numbers, p);
+    let a = get(numbers, p);
     join_run(roots, keys, numbers, a, k, phi.inputs);
 }
 
@@ -80,10 +80,10 @@ fn join_phis(roots: &mut [u32], f: &[u8], keys: &[u64], numbers: &[u32])
 fn keep(keys: &[u64], numbers: &[u32], i: usize, x: u32) -> u32
     ensures { result ≡ kept keys.now numbers.now x i }
 {
-    if at_u64(keys, i) == 0 {
+    if get(keys, i) == 0 {
         return 0;
     }
-    if at_u32(numbers, i) as usize != i {
+    if get(numbers, i) as usize != i {
         return 0;
     }
     x
@@ -95,7 +95,7 @@ fn spare(roots: &mut [u32], keys: &[u64], numbers: &[u32])
 {
     let mut i = 0;
     while i < roots.len() {
-        let x = at_u32(roots, i);
+        let x = get(roots, i);
         roots[i] = keep(keys, numbers, i, x);
         i += 1;
     }

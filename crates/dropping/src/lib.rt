@@ -7,7 +7,7 @@ ghost use Rattle.passes.specs.Dropping.{kept_row, gathered, placed, gather_from,
 use outline::forming::clear;
 use outline::rows::{LABEL, kind_of};
 use outline::spans::{aimed_out, note};
-use slices::at_u64;
+use slices::get;
 
 // Whether the row is no label, or one that a row aims at.
 fn is_kept(spans: &[u64], n: usize, w: u64) -> bool
@@ -39,7 +39,7 @@ fn gather(rows: &mut [u64], spans: &[u64], n: usize, m: usize) -> usize
     let mut c = 0;
     let mut i = 0;
     while i < m {
-        let w = at_u64(rows, i);
+        let w = get(rows, i);
         let kept = is_kept(spans, n, w);
         c = place(rows, kept, c, w);
         i += 1;

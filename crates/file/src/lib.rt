@@ -9,7 +9,7 @@ use records::edition::Edition;
 use references::refused5;
 use sections::limits::{refused2, refused3};
 use shape::refused4;
-use zeros::clear_words;
+use zeros::clear;
 
 // What a file is found to be: the number of each refusal is given by `number_of`.
 #[derive(Clone, Copy)]
@@ -30,7 +30,7 @@ pub const OWNERS: usize = 2048;
 pub fn check_file(f: &[u8], owners: &mut [u32]) -> Verdict
     ensures { Judged f.now result owners.old owners.new }
 {
-    clear_words(owners);
+    clear(owners);
     if owners.len() != OWNERS {
         return Verdict::Lent;
     }

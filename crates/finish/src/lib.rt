@@ -14,7 +14,7 @@ use outline::rows::kind_of;
 use room::line::end_line;
 use room::out::Out;
 use sheet::lines::first_of;
-use slices::at_u64;
+use slices::get;
 
 // The line of the row w.
 fn write_row(
@@ -60,7 +60,7 @@ pub fn finish(
     let mut out = out;
     let mut i = 0;
     while i < n {
-        let w = at_u64(rows, i);
+        let w = get(rows, i);
         out = write_row(lines, tokens, text, out, from, lowered, source, w);
         i += 1;
     }

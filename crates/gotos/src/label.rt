@@ -12,7 +12,7 @@ use pieces::put::{put, put_label};
 use records::contents::block_long;
 use room::line::end_line;
 use room::out::{At, Out};
-use slices::at_u32;
+use slices::get;
 
 // Where something goes to the block other than by falling into it.
 pub fn label(
@@ -29,7 +29,7 @@ pub fn label(
     ensures { (E : Edition) → seen_sheet (sheet_of lines.new tokens.new text.new result)
         ≡ seen_sheet (write_all (sheet_of lines.old tokens.old text.old out) (label_line (lowering_of E f.now) (block_long f.now block 0))) }
 {
-    if at_u32(labels, block as usize) == 1 {
+    if get(labels, block as usize) == 1 {
         let a = block_long(f, block, 0);
         let out = put_label(tokens, text, out, a);
         let out = put(tokens, text, out, PUNCT, b":");

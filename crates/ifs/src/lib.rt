@@ -9,7 +9,7 @@ use outline::forming::{deep_in, insert_row, raise, turn};
 use outline::rows::{COND, indent_of, judge, kind_of, name_of};
 use outline::spans::{note, reached};
 use passes::sweeps::{Formed, Passed};
-use slices::at_u64;
+use slices::get;
 
 // The row of the label m at depth d - 1, from row i up to n; n where the scan ends without it.
 fn find_label(rows: &[u64], n: usize, i: usize, m: u64, d: u64) -> usize
@@ -17,7 +17,7 @@ fn find_label(rows: &[u64], n: usize, i: usize, m: u64, d: u64) -> usize
 {
     let mut j = i;
     while j < n {
-        let v = judge(at_u64(rows, j), m, d);
+        let v = judge(get(rows, j), m, d);
         if v == 1 {
             return j;
         }
@@ -34,7 +34,7 @@ fn if_goal(rows: &[u64], spans: &[u64], n: usize, k: usize) -> usize
     requires { k < n }
     ensures { result ≡ if_goal rows.now spans.now n k }
 {
-    let w = at_u64(rows, k);
+    let w = get(rows, k);
     if kind_of(w) != COND {
         return n;
     }
@@ -56,7 +56,7 @@ fn form_if(rows: &mut [u64], n: usize, k: usize, j: usize)
     requires { (k < j) × (j < n) × (n < length rows.old) }
     ensures { rows.new ≡ formed_if rows.old n k j }
 {
-    let w = at_u64(rows, k);
+    let w = get(rows, k);
     rows[k] = turn(w, 3);
     raise(rows, k + 1, j);
     insert_row(rows, n, j, 6 + 16 * indent_of(w));

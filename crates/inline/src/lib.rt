@@ -15,14 +15,14 @@ use later::{Later, later_read};
 use places::places_of;
 use records::contents::{BLOCKS, size_of};
 use records::owners::{ASSIGN, block_stmts, is_dead, stmt_field, stmt_kind};
-use slices::{at_u32, put_u32};
+use slices::{get, put};
 
 // The number of the value that statement i defines.
 fn number_of(f: &[u8], numbers: &[u32], i: u32) -> usize
     ensures { result ≡ at numbers.now ((places_of f.now).stmts + i) }
 {
     let p = places_of(f);
-    at_u32(numbers, p.stmts + i as usize) as usize
+    get(numbers, p.stmts + i as usize) as usize
 }
 
 // Whether statement i is a live Assign to another register than RSP, of value n, which no phi reads and live statements read once.
@@ -38,10 +38,10 @@ fn read_once(f: &[u8], live: &[u32], phi: &[u32], i: u32, n: usize) -> bool
     if stmt_field(f, i, 0) == RSP {
         return false;
     }
-    if at_u32(phi, n) != 0 {
+    if get(phi, n) != 0 {
         return false;
     }
-    at_u32(live, n) == 1
+    get(live, n) == 1
 }
 
 // Statement i, in a block that ends before statement `end`. A value without exactly one later read in its block is passed over at once.
@@ -67,7 +67,7 @@ fn place(
     let Later::At(_) = later_read(f, readers, loads, i, end, n) else {
         return;
     };
-    put_u32(places, n, i + 1);
+    put(places, n, i + 1);
 }
 
 // The statements of one block, from `first` on and before `end`.

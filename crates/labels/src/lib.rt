@@ -13,7 +13,7 @@ ghost use Rattle.labels.specs.Labels.{block_of, labelled, next_at, taken_at, fal
 
 use records::contents::{BLOCKS, STATEMENTS, block_long, block_word, size_of, stmt_long};
 use records::owners::{BRANCH, stmt_field, stmt_kind};
-use slices::put_u32;
+use slices::put;
 
 // 1 more than the number of the first block that begins at a, 0 where none does.
 pub fn block_of(f: &[u8], a: u64) -> u32
@@ -36,7 +36,7 @@ fn label_at(tab: &mut [u32], f: &[u8], a: u64)
 {
     let b = block_of(f, a);
     if b > 0 {
-        put_u32(tab, b as usize - 1, 1);
+        put(tab, b as usize - 1, 1);
     }
 }
 

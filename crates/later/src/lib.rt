@@ -7,7 +7,7 @@ ghost use Rattle.definition.specs.Lists.{at};
 ghost use Rattle.later.specs.Search.{changes, changed, later_read};
 
 use records::owners::{ASSIGN, BRANCH, FLAGS, RETURN, stmt_field, stmt_kind};
-use slices::at_u32;
+use slices::get;
 
 // The statement that reads it, if it may be written there.
 #[derive(Clone, Copy)]
@@ -57,14 +57,14 @@ pub fn later_read(f: &[u8], readers: &[u32], loads: &[u32], i: u32, end: u32, n:
     requires { i < end }
     ensures { result ≡ later_read f.now i end (at readers.now n) (at loads.now (stmt_field f.now i 2)) }
 {
-    let reader = at_u32(readers, n);
+    let reader = get(readers, n);
     if reader <= i + 1 {
         return Later::Nowhere;
     }
     if end < reader {
         return Later::Nowhere;
     }
-    let load = at_u32(loads, stmt_field(f, i, 2) as usize);
+    let load = get(loads, stmt_field(f, i, 2) as usize);
     if load_changed(f, i + 1, reader - 1, load) {
         return Later::Nowhere;
     }

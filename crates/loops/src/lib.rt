@@ -9,7 +9,7 @@ use outline::forming::{deep_in, raise, turn, up};
 use outline::rows::{LABEL, indent_of, judge_back, kind_of, name_of};
 use outline::spans::{is_outside, note, reached};
 use passes::sweeps::{Formed, Passed};
-use slices::at_u64;
+use slices::get;
 
 // The back edge found last: row j where it is one, or that before.
 fn later(v: u64, j: usize, last: usize) -> usize
@@ -28,7 +28,7 @@ fn last_back(rows: &[u64], n: usize, i: usize, m: u64, d: u64) -> usize
     let mut last = n;
     let mut j = i;
     while j < n {
-        let v = judge_back(at_u64(rows, j), m, d);
+        let v = judge_back(get(rows, j), m, d);
         if v == 2 {
             return last;
         }
@@ -43,7 +43,7 @@ fn do_goal(rows: &[u64], spans: &[u64], n: usize, k: usize) -> usize
     requires { k < n }
     ensures { result ≡ do_goal rows.now spans.now n k }
 {
-    let w = at_u64(rows, k);
+    let w = get(rows, k);
     if kind_of(w) != LABEL {
         return n;
     }
@@ -52,7 +52,7 @@ fn do_goal(rows: &[u64], spans: &[u64], n: usize, k: usize) -> usize
     if j == n {
         return n;
     }
-    if is_outside(at_u64(spans, m as usize), j, j + 1) {
+    if is_outside(get(spans, m as usize), j, j + 1) {
         return n;
     }
     if reached(rows, spans, k + 1, j, k, j + 1) {
@@ -66,8 +66,8 @@ fn form_do(rows: &mut [u64], k: usize, j: usize)
     requires { (k < j) × (j < length rows.old) }
     ensures { rows.new ≡ formed_do rows.old k j }
 {
-    let w = at_u64(rows, k);
-    let b = at_u64(rows, j);
+    let w = get(rows, k);
+    let b = get(rows, j);
     rows[k] = turn(up(w), 6);
     raise(rows, k + 1, j);
     rows[j] = turn(b, 6);

@@ -4,7 +4,7 @@ ghost use Rattle.lowered.specs.Emptied.{filled_to, emptied, Reach};
 
 use places::places_of;
 use tables::clearing::clear_four;
-use zeros::clear_longs;
+use zeros::clear;
 
 // A number for each place of the file; none where n refuses it, as all tables are zeros then.
 pub fn filled(f: &[u8], n: u32) -> usize
@@ -40,7 +40,7 @@ pub fn clear_handed(
         × (marks.new ≡ emptied n marks.old)
         × (labels.new ≡ replicate (length labels.old) 0) }
 {
-    clear_longs(&mut offs[..n]);
+    clear(&mut offs[..n]);
     clear_four(
         &mut numbers[..n],
         &mut places[..n],

@@ -16,7 +16,7 @@ use crate::saves::is_save;
 use places::{Places, places_of};
 use records::contents::{STATEMENTS, size_of};
 use records::owners::is_dead;
-use slices::{at_u32, put_u32};
+use slices::{get, put};
 
 // Does statement i read nothing that counts: it is dead, or a save.
 fn passed_over(offsets: &[u64], f: &[u8], t: u32, numbers: &[u32], places: Places, i: u32) -> bool
@@ -45,9 +45,9 @@ fn mark_run(
 {
     let mut j = a;
     while j < b {
-        let n = at_u32(order, j as usize);
-        let s = at_u32(numbers, base + n as usize);
-        put_u32(tab, at_u32(roots, s as usize) as usize, 1);
+        let n = get(order, j as usize);
+        let s = get(numbers, base + n as usize);
+        put(tab, get(roots, s as usize) as usize, 1);
         j += 1;
     }
 }
@@ -74,8 +74,8 @@ fn mark_stmt(
     if passed_over(offsets, f, t, numbers, places, i) {
         return;
     }
-    let a = at_u32(starts, i as usize);
-    let b = at_u32(starts, i as usize + 1);
+    let a = get(starts, i as usize);
+    let b = get(starts, i as usize + 1);
     mark_run(tab, numbers, roots, order, places.exprs, a, b);
 }
 

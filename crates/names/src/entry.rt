@@ -14,7 +14,7 @@ use places::places_of;
 use reads::mark_run;
 use records::contents::{ARGS, STATEMENTS, size_of};
 use records::owners::{BRANCH, CALL, is_dead, stmt_kind};
-use slices::at_u32;
+use slices::get;
 
 // Does statement i make no parameter: it is dead, or reads every argument register by convention.
 fn passed_over(f: &[u8], i: u32) -> bool
@@ -47,8 +47,8 @@ fn tick_stmt(
     if passed_over(f, i) {
         return;
     }
-    let a = at_u32(starts, i as usize);
-    let b = at_u32(starts, i as usize + 1);
+    let a = get(starts, i as usize);
+    let b = get(starts, i as usize + 1);
     mark_run(tab, numbers, order, from, a, b, 1);
 }
 
@@ -75,7 +75,7 @@ pub fn params(f: &[u8], numbers: &[u32], entry: &[u32]) -> u32
 {
     let mut i = size_of(f, ARGS);
     while i > 0 {
-        if at_u32(entry, at_u32(numbers, i as usize - 1) as usize) != 0 {
+        if get(entry, get(numbers, i as usize - 1) as usize) != 0 {
             return i;
         }
         i -= 1;

@@ -4,7 +4,7 @@ ghost use Rattle.defined.specs.Defined.{value_of};
 ghost use Rattle.names.specs.Spots.{spot, known, state, met, named};
 
 use defined::value::{RSP, Value};
-use slices::{at_u32, put_u32};
+use slices::{get, put};
 
 // A code has 32 bits; no function has so many locals.
 const LOCALS: u32 = 2147483648;
@@ -23,17 +23,17 @@ fn is_own(ver: u32, r: u32, n: u32) -> bool
 fn note(names: &mut [u32], seen: &mut [u32], n: u32, r: u32, c: u32)
     ensures { (names.new ≡ set names.old n c) × (seen.new ≡ set seen.old r c) }
 {
-    put_u32(names, n as usize, c);
-    put_u32(seen, r as usize, c);
+    put(names, n as usize, c);
+    put(seen, r as usize, c);
 }
 
 // A class met first as its own version 0 has the register's name, else the next local's.
 fn meet(names: &mut [u32], seen: &mut [u32], n: u32, r: u32, ver: u32, next: u32) -> u32
     ensures { state names.new seen.new result ≡ met (state names.old seen.old next) n r ver }
 {
-    let c = at_u32(seen, r as usize);
+    let c = get(seen, r as usize);
     if c != 0 {
-        put_u32(names, n as usize, c);
+        put(names, n as usize, c);
         return next;
     }
     if is_own(ver, r, n) {
@@ -64,12 +64,12 @@ pub fn name_key(
     if v.reg == RSP {
         return next;
     }
-    let n = at_u32(numbers, p);
-    if at_u32(names, n as usize) != 0 {
+    let n = get(numbers, p);
+    if get(names, n as usize) != 0 {
         return next;
     }
-    if at_u32(away, n as usize) != 0 {
+    if get(away, n as usize) != 0 {
         return next;
     }
-    meet(names, seen, n, at_u32(roots, n as usize), v.ver, next)
+    meet(names, seen, n, get(roots, n as usize), v.ver, next)
 }

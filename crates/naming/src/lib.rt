@@ -15,8 +15,8 @@ ghost use Rattle.naming.specs.Given.{NamesAll};
 
 use crate::walk::name_blocks;
 use names::entry::params;
-use slices::{at_u32, put_u32};
-use zeros::clear_words;
+use slices::{get, put};
+use zeros::clear;
 
 // The classes of the first n argument registers' entry values are parameters; where two are one class the first counts.
 fn see_params(seen: &mut [u32], numbers: &[u32], roots: &[u32], n: u32)
@@ -25,8 +25,8 @@ fn see_params(seen: &mut [u32], numbers: &[u32], roots: &[u32], n: u32)
 {
     let mut i = n;
     while i > 0 {
-        let r = at_u32(roots, at_u32(numbers, i as usize - 1) as usize);
-        put_u32(seen, r as usize, 2 * i);
+        let r = get(roots, get(numbers, i as usize - 1) as usize);
+        put(seen, r as usize, 2 * i);
         i -= 1;
     }
 }
@@ -52,5 +52,5 @@ pub fn naming(
     let n = params(f, numbers, entry);
     see_params(seen, numbers, roots, n);
     name_blocks(names, seen, f, numbers, roots, places, order, starts);
-    clear_words(seen);
+    clear(seen);
 }

@@ -10,7 +10,7 @@ use defined::value::{Value, item_value};
 use names::key::name_key;
 use places::Places;
 use records::contents::{expr_word, input_at, phi_word};
-use slices::at_u32;
+use slices::get;
 
 // The inputs of a phi, list items that are values, or the nodes that `order` has.
 #[derive(Clone, Copy)]
@@ -51,7 +51,7 @@ fn mention_at(f: &[u8], order: &[u32], at: Places, run: Run, k: u32) -> Mention
             }
         }
         Run::Uses => {
-            let n = at_u32(order, k as usize);
+            let n = get(order, k as usize);
             let v = Value {
                 reg: expr_word(f, n, 1),
                 ver: expr_word(f, n, 2),

@@ -16,7 +16,7 @@ use defined::value::{Defined, assigned_by, next_item, returned_by};
 use names::key::name_key;
 use places::Places;
 use records::owners::{expr_items, is_dead, value_items};
-use slices::at_u32;
+use slices::get;
 
 // A value that a statement defines by its fields, if there is one; place p names it.
 fn name_defined(
@@ -105,8 +105,8 @@ fn name_stmt(
         b,
         next,
     );
-    let x = at_u32(starts, i as usize);
-    let y = at_u32(starts, i as usize + 1);
+    let x = get(starts, i as usize);
+    let y = get(starts, i as usize + 1);
     name_run(
         names,
         seen,

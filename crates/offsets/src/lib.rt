@@ -14,7 +14,7 @@ ghost use Rattle.rounds.specs.Defs.{mine, defs_below};
 
 use places::{Places, places_of};
 use rounds::round_of;
-use slices::put_u64;
+use slices::put;
 
 // The key of RSP at entry, and its offset, which is 0.
 const ENTRY: u64 = 17179869185;
@@ -56,7 +56,7 @@ pub fn offsets(tab: &mut [u64], f: &[u8], t: u32, numbers: &[u32], keys: &[u64])
         → tab.new ≡ table f.now (length numbers.now) (look (offsets (read E f.now))) }
 {
     let places = places_of(f);
-    put_u64(tab, first_of(keys, ENTRY), HALF);
+    put(tab, first_of(keys, ENTRY), HALF);
     close(tab, f, t, numbers, places, true);
     close(tab, f, t, numbers, places, false);
 }

@@ -3,7 +3,7 @@ ghost use Rattle.std.specs.Prelude.{◌≡◌, ◌≤◌, ◌<◌, length};
 ghost use Rattle.outline.specs.Forming.{raised, turned, nought, changed_in, inserted, deep_in};
 
 use crate::rows::{indent_of, kind_of, too_deep};
-use slices::at_u64;
+use slices::get;
 
 // The row inside one brace more.
 pub fn up(w: u64) -> u64
@@ -69,7 +69,7 @@ pub fn deep_in(rows: &[u64], i: usize, j: usize) -> bool
 {
     let mut k = i;
     while k < j {
-        if too_deep(at_u64(rows, k)) {
+        if too_deep(get(rows, k)) {
             return true;
         }
         k += 1;

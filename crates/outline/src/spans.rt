@@ -4,7 +4,7 @@ ghost use Rattle.outline.specs.Spans.{widened, note_row, note_from, spans_of, ou
 
 use crate::forming::clear;
 use crate::rows::{LABEL, is_goto, kind_of, name_of};
-use slices::at_u64;
+use slices::get;
 
 // The span e with row i more; i stands above the rows in it.
 fn widen(e: u64, i: usize) -> u64
@@ -37,7 +37,7 @@ fn note_rows(rows: &[u64], spans: &mut [u64], n: usize)
 {
     let mut i = 0;
     while i < n {
-        note_row(spans, at_u64(rows, i), i);
+        note_row(spans, get(rows, i), i);
         i += 1;
     }
 }
@@ -71,7 +71,7 @@ pub fn aimed_out(spans: &[u64], a: usize, b: usize, w: u64) -> bool
     if kind_of(w) != LABEL {
         return false;
     }
-    is_outside(at_u64(spans, name_of(w) as usize), a, b)
+    is_outside(get(spans, name_of(w) as usize), a, b)
 }
 
 // Whether a row below a, or from b on, aims at a label from row i up to j.
@@ -80,7 +80,7 @@ pub fn reached(rows: &[u64], spans: &[u64], i: usize, j: usize, a: usize, b: usi
 {
     let mut k = i;
     while k < j {
-        if aimed_out(spans, a, b, at_u64(rows, k)) {
+        if aimed_out(spans, a, b, get(rows, k)) {
             return true;
         }
         k += 1;

@@ -12,7 +12,7 @@ ghost use Rattle.owned.specs.Tally.{more, mentioned, tally, Answered};
 use mentions::{child_at, child_count, root_at, root_count};
 use records::contents::{EXPRESSIONS, STATEMENTS, size_of};
 use records::owners::items_of;
-use zeros::clear_words;
+use zeros::clear;
 
 // One owner more; 2 says more than one, so that it never overflows.
 fn one_more(x: u32) -> u32
@@ -105,10 +105,10 @@ pub fn owned_once(table: &mut [u32], f: &[u8]) -> bool
     requires expressions_in_bounds { size f.now expressions ≤ length table.old }
     ensures { Answered (owned_once f.now) result table.old table.new }
 {
-    clear_words(table);
+    clear(table);
     tally_statements(table, f);
     tally_expressions(table, f);
     let once = all_once(table, size_of(f, EXPRESSIONS));
-    clear_words(table);
+    clear(table);
     once
 }

@@ -32,7 +32,7 @@ use records::contents::{EXPRESSIONS, expr_word, size_of};
 use records::owners::{LOAD, is_dead, stmt_field};
 use render::code::put_code;
 use room::out::Out;
-use slices::at_u32;
+use slices::get;
 use sums::address::stack_off;
 use text::registers::Register;
 
@@ -78,7 +78,7 @@ fn is_restore(
     if !x.callee_saved() {
         return false;
     }
-    if at_u32(marks, at_u32(roots, m) as usize) != 0 {
+    if get(marks, get(roots, m) as usize) != 0 {
         return false;
     }
     is_stack_load(offs, f, t, numbers, places, stmt_field(f, i, 2))
@@ -94,7 +94,7 @@ fn is_gone(f: &[u8], placed: &[u32], i: u32, m: usize) -> bool
     if stmt_field(f, i, 0) == RSP {
         return true;
     }
-    at_u32(placed, m) != 0
+    get(placed, m) != 0
 }
 
 // The name of what it defines, value m.
@@ -113,7 +113,7 @@ fn put_name(
 {
     let width = bits_of(f);
     let reg = stmt_field(f, i, 0);
-    let code = at_u32(names, m);
+    let code = get(names, m);
     put_code(tokens, text, out, width, reg, code)
 }
 

@@ -2,12 +2,12 @@
 ghost use Rattle.std.specs.Prelude.{◌≡◌, ◌+◌, ◌<◌};
 ghost use Rattle.definition.specs.Lists.{at};
 
-use slices::at_u32;
+use slices::get;
 
 // The number of the value at place i behind `base`.
 pub fn number_of(numbers: &[u32], base: usize, i: u32) -> usize
     requires { base < 34359738368 }
     ensures { result ≡ at numbers.now (base + i) }
 {
-    at_u32(numbers, base + i as usize) as usize
+    get(numbers, base + i as usize) as usize
 }

@@ -14,7 +14,7 @@ use places::Places;
 use reads::is_read;
 use records::contents::item_word;
 use records::owners::{expr_items, value_items};
-use slices::at_u32;
+use slices::get;
 
 // A variable, by its register and the code of its name.
 #[derive(Clone, Copy)]
@@ -62,7 +62,7 @@ fn code_at(
     }
     let m = number_of(numbers, base, k);
     if is_read(live, phi, m) {
-        return at_u32(names, m);
+        return get(names, m);
     }
     0
 }

@@ -10,15 +10,15 @@ ghost use Rattle.reads.specs.Counts.{raised, placed, visit, slots, between, live
 use places::places_of;
 use records::contents::{INPUTS, STATEMENTS, size_of};
 use records::owners::is_dead;
-use slices::{at_u32, put_u32};
+use slices::{get, put};
 
 // One more; the greatest number stays, so that it never overflows.
 fn raise(tab: &mut [u32], i: usize)
     ensures { tab.new ≡ raised tab.old i }
 {
-    let x = at_u32(tab, i);
+    let x = get(tab, i);
     if x < 4294967295 {
-        put_u32(tab, i, x + 1);
+        put(tab, i, x + 1);
     }
 }
 
@@ -29,8 +29,8 @@ fn raise_run(tab: &mut [u32], numbers: &[u32], order: &[u32], base: usize, a: u3
 {
     let mut j = a;
     while j < b {
-        let n = at_u32(order, j as usize);
-        raise(tab, at_u32(numbers, base + n as usize) as usize);
+        let n = get(order, j as usize);
+        raise(tab, get(numbers, base + n as usize) as usize);
         j += 1;
     }
 }
@@ -52,8 +52,8 @@ fn raise_stmt(
         return;
     }
     let k = i as usize;
-    let a = at_u32(starts, k);
-    raise_run(tab, numbers, order, base, a, at_u32(starts, k + 1));
+    let a = get(starts, k);
+    raise_run(tab, numbers, order, base, a, get(starts, k + 1));
 }
 
 // How often live statements read each value.
@@ -87,8 +87,8 @@ pub fn mark_run(
 {
     let mut j = a;
     while j < b {
-        let n = at_u32(order, j as usize);
-        put_u32(tab, at_u32(numbers, base + n as usize) as usize, x);
+        let n = get(order, j as usize);
+        put(tab, get(numbers, base + n as usize) as usize, x);
         j += 1;
     }
 }
@@ -110,8 +110,8 @@ fn mark_stmt(
         return;
     }
     let k = i as usize;
-    let a = at_u32(starts, k);
-    mark_run(tab, numbers, order, base, a, at_u32(starts, k + 1), i + 1);
+    let a = get(starts, k);
+    mark_run(tab, numbers, order, base, a, get(starts, k + 1), i + 1);
 }
 
 // 1 more than the last live statement that reads each value, 0 where none does.
@@ -140,7 +140,7 @@ pub fn phi_reads(tab: &mut [u32], f: &[u8], numbers: &[u32])
     let n = size_of(f, INPUTS);
     let mut k = 0;
     while k < n {
-        put_u32(tab, at_u32(numbers, base + k as usize) as usize, 1);
+        put(tab, get(numbers, base + k as usize) as usize, 1);
         k += 1;
     }
 }
@@ -149,8 +149,8 @@ pub fn phi_reads(tab: &mut [u32], f: &[u8], numbers: &[u32])
 pub fn is_read(live: &[u32], phi: &[u32], m: usize) -> bool
     ensures { result ≡ read_by live.now phi.now m }
 {
-    if at_u32(live, m) != 0 {
+    if get(live, m) != 0 {
         return true;
     }
-    at_u32(phi, m) != 0
+    get(phi, m) != 0
 }

@@ -1,13 +1,24 @@
 -- Loops over the numbers below a bound, whatever is tested or added: how they begin, a turn, an early end, and the end. t or x is what the
 -- body read of i, n is what the loop runs to, and m is what the definition calls it.
-use mathlib.Core.Path.{◌≡◌, refl, sym, ap₂, ◌∙◌}
-use mathlib.Core.Bool.{Bool, true, false, not, ◌&&◌, and-false}
+use mathlib.Core.Path.{◌≡◌, refl, sym, ap, ap₂, ◌∙◌}
+use mathlib.Core.Bool.{Bool, true, false, not, ◌&&◌, and-false, and-true, and_assoc}
+use mathlib.Core.List.{List}
 use Prim.Native.Nat.{ℕ, zero, suc, ◌+◌, ◌≤◌, ◌<◌}
 use native.Mathlib.Decide.{dec_lt}
 use native.Mathlib.Numerals.{add-one}
 use native.Mathlib.Omega.{arith}
 use lib.Dec.{eqb}
 use borrow.Author.Tests.{ne_eqb, not-true, not-false}
+use denote.Param.Members.{Mut}
+use Rattle.std.specs.Fn.{Called}
+use Rattle.std.specs.Iterator.{YieldsThen}
+use Rattle.std.specs.List.{range_with_len, list_all, FoldsTo}
+use Rattle.std.specs.Option.{MatchOption}
+use Rattle.std.specs.Prelude.{Option}
+use Rattle.std.specs.declared.ops.Range.{Range}
+use Rattle.std.proofs.iter.Yields.{nat_range_steps}
+use Rattle.std.proofs.lemmas.Iterator.{YieldsList-from_range}
+use Rattle.std.proofs.lemmas.Iterator.Search.{all_from_yields_List}
 use Rattle.definition.specs.Lists.{all_below, sum_below}
 
 -- what is below suc n is below n, or n
@@ -88,3 +99,27 @@ pub sum_mono : (g h : ℕ → ℕ) (n : ℕ) → ((i : ℕ) → i < n → g i �
 unfolding sum_below
 sum_mono g h zero p = omega arith
 sum_mono g h (suc n) p = omega (arith, sum_mono g h n (λ i k. p i (omega arith)), p n (omega arith))
+
+-- ---- a chain `(0..n).all(..)`, whose closure computes the test of each number
+more_all : (p : ℕ → Bool) (a n : ℕ) → list_all p (range_with_len a (suc n)) ≡ (list_all p (range_with_len a n) && p (a + n))
+more_all p a zero = let e : a + 0 ≡ a = omega arith in rw e (and-true (p a))
+more_all p a (suc n) =
+    let e : a + 1 + n ≡ a + suc n = omega arith in
+    let h = more_all p (a + 1) n in
+    ap (λ (b : Bool). p a && b) h ∙ ap (λ (m : ℕ). p a && (list_all p (range_with_len (a + 1) n) && p m)) e
+    ∙ sym (and_assoc (p a) (list_all p (range_with_len (a + 1) n)) (p (a + suc n)))
+
+all_listed : (p : ℕ → Bool) (n : ℕ) → list_all p (range_with_len 0 n) ≡ all_below n p
+unfolding all_below
+all_listed p zero = refl
+all_listed p (suc n) =
+    let e : 0 + n ≡ n = omega arith in
+    more_all p 0 n ∙ ap₂ (λ (b : Bool) (m : ℕ). b && p m) (all_listed p n) e
+
+pub all_upto : {F : Type 0} {g : Mut F (ℕ × Unit {0}) Bool} {s : Range ℕ} {u : Range ℕ} {f : F} {r : Bool} (p : ℕ → Bool) (n : ℕ)
+    → ((xs : List ℕ) × (o : Option ℕ) × (j : F) × YieldsThen nat_range_steps s xs o u × FoldsTo (λ p x q. Called g p (x, tt) true q) f xs j
+        × MatchOption o (r ≡ true) (λ x. (r ≡ false) × ((h : F) × Called g j (x, tt) false h)))
+    → s ≡ record { start = 0; end = n }
+    → ((x : ℕ) (b : Bool) (q : F) → Called g f (x, tt) b q → (q ≡ f) × (b ≡ p x)) → r ≡ all_below n p
+all_upto {u = u} {f = f} {r = r} p n ran e h =
+    all_from_yields_List p u f r ran (YieldsList-from_range 0 n n e (omega arith)) h ∙ all_listed p n

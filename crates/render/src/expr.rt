@@ -21,7 +21,7 @@ use places::Places;
 use records::contents::{EXPRESSIONS, size_of};
 use records::owners::stmt_field;
 use room::out::Out;
-use slices::{at_u32, at_u64};
+use slices::get;
 use ssa::node::{Bin, Load, Un};
 
 // Where an expression is: node n, which counts if it is below b, before statement `pos`. t is the text's section.
@@ -252,12 +252,12 @@ pub fn value(
     if out.full {
         return out;
     }
-    let v = at_u32(numbers, place) as usize;
-    let s = at_u64(offs, v);
+    let v = get(numbers, place) as usize;
+    let s = get(offs, v);
     if s != 0 {
         return put_address(tokens, text, out, s);
     }
-    let k = at_u32(placed, v);
+    let k = get(placed, v);
     if is_open(k, pos) {
         let i = k - 1;
         let opened = Spot {
@@ -270,5 +270,5 @@ pub fn value(
         };
         return below(tokens, text, out, f, numbers, offs, placed, names, opened);
     }
-    put_code(tokens, text, out, bits_of(f), reg, at_u32(names, v))
+    put_code(tokens, text, out, bits_of(f), reg, get(names, v))
 }

@@ -12,7 +12,7 @@ ghost use Rattle.rounds.specs.Ran.{pass_of, learnt, Ran};
 use places::Places;
 use records::contents::phi_word;
 use records::owners::{ASSIGN, phi_inputs, stmt_field, stmt_kind};
-use slices::{at_u32, at_u64, put_u64};
+use slices::{get, put};
 use sums::address::stack_off;
 use sums::reading::value_at;
 
@@ -41,13 +41,13 @@ fn agreed(tab: &[u64], numbers: &[u32], from: usize, n: u32) -> u64
 fn learn(tab: &mut [u64], v: u32, x: u64) -> bool
     ensures { pass_of tab.new result ≡ learnt tab.old v x }
 {
-    if at_u64(tab, v as usize) != 0 {
+    if get(tab, v as usize) != 0 {
         return false;
     }
     if x == 0 {
         return false;
     }
-    put_u64(tab, v as usize, x);
+    put(tab, v as usize, x);
     true
 }
 
@@ -85,7 +85,7 @@ pub fn phi_step(
         places.inputs + first as usize,
         phi_inputs(f, i),
     );
-    let v = at_u32(numbers, places.phis + i as usize);
+    let v = get(numbers, places.phis + i as usize);
     learn(tab, v, x)
 }
 
@@ -112,6 +112,6 @@ pub fn stmt_step(
         return false;
     }
     let x = stack_off(tab, f, t, numbers, places, stmt_field(f, i, 2));
-    let v = at_u32(numbers, places.stmts + i as usize);
+    let v = get(numbers, places.stmts + i as usize);
     learn(tab, v, x)
 }

@@ -3,7 +3,7 @@ ghost use Rattle.std.specs.Prelude.{◌≡◌};
 ghost use Rattle.sheet.specs.Buffers.{end_of, start_of};
 
 use crate::lines::line_number;
-use slices::at_u64;
+use slices::get;
 
 // The number of a line that is the end of its tokens.
 const END: usize = 3;
@@ -20,7 +20,7 @@ pub fn end_of(l: &[u64], x: Run, i: usize) -> usize
 {
     match x {
         Run::Tokens => line_number(l, i, END) as usize,
-        Run::Bytes => (at_u64(l, i) / 8) as usize,
+        Run::Bytes => (get(l, i) / 8) as usize,
     }
 }
 

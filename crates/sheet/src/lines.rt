@@ -4,7 +4,7 @@ ghost use Rattle.definition.specs.Lists.{at};
 ghost use Rattle.sheet.specs.Buffers.{first_of, last_of};
 
 use crate::ends::{Run, end_of, start_of};
-use slices::at_u64;
+use slices::get;
 
 // The numbers of a line.
 const ROW: usize = 5;
@@ -17,7 +17,7 @@ pub fn line_number(lines: &[u64], i: usize, k: usize) -> u64
     if lines.len() / ROW < i {
         return 0;
     }
-    at_u64(lines, ROW * i + k)
+    get(lines, ROW * i + k)
 }
 
 pub fn last_of(lines: &[u64], i: usize) -> usize

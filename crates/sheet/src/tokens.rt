@@ -7,12 +7,12 @@ ghost use Rattle.sheet.specs.Ranges.{SamePlace};
 
 use crate::ends::{Run, end_of, start_of};
 use crate::ranges::is_between;
-use slices::at_u64;
+use slices::get;
 
 pub fn kind_at(tokens: &[u64], j: usize) -> u32
     ensures { result ≡ kind_at tokens.now j }
 {
-    (at_u64(tokens, j) % 8) as u32
+    (get(tokens, j) % 8) as u32
 }
 
 pub fn end_at(tokens: &[u64], j: usize) -> usize

@@ -26,7 +26,7 @@ impl Entry for u64 {
     ghost reads = { at_is };
 }
 
-pub fn at<T: Entry>(l: &[T], i: usize) -> T
+pub fn get<T: Entry>(l: &[T], i: usize) -> T
     ensures { result ≡ T.at l.now i }
 {
     l.get(i).copied().unwrap_or(T::ZERO)

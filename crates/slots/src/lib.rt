@@ -15,7 +15,7 @@ use defined::value::{Defined, Value, assigned_by, item_value, next_item, phi_val
 use once::scan_once;
 use records::contents::{PHIS, STATEMENTS, size_of};
 use records::owners::{expr_items, value_items};
-use zeros::clear_words;
+use zeros::clear;
 
 // The entry with the slot of v: 128 for each register.
 fn place_of(v: Value) -> usize
@@ -171,7 +171,7 @@ pub fn defined_once(table: &mut [u32], f: &[u8]) -> bool
     ensures { (result ≡ defined_once f.now) × (table.new ≡ replicate (length table.old) 0) }
 {
     let told = slots_tell(table, f);
-    clear_words(table);
+    clear(table);
     if told {
         return true;
     }

@@ -6,15 +6,15 @@ ghost use Rattle.sums.specs.Address.{value_at, single, op_byte, used_at, const_a
 use crate::sums::signed;
 use records::contents::{expr_long, expr_word, offset_of};
 use records::owners::{CONST, USE};
-use slices::{at_u32, at_u64};
+use slices::get;
 
 // What the table says of the value at place i behind `from`.
 pub fn value_at(tab: &[u64], numbers: &[u32], from: usize, i: u32) -> u64
     requires { from + i < length numbers.now }
     ensures { result ≡ value_at tab.now numbers.now from i }
 {
-    let v = at_u32(numbers, from + i as usize);
-    at_u64(tab, v as usize)
+    let v = get(numbers, from + i as usize);
+    get(tab, v as usize)
 }
 
 // The byte of a text that has one. A text that the file's end cuts off is as long as it is there.

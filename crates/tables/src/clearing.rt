@@ -2,24 +2,24 @@
 ghost use Rattle.std.specs.Prelude.{◌≡◌, length, replicate};
 ghost use Rattle.tables.specs.Tables.{tables_of, cleared};
 
-use zeros::{clear_longs, clear_words};
+use zeros::clear;
 
 pub fn clear_four(a: &mut [u32], b: &mut [u32], c: &mut [u32], d: &mut [u32])
     ensures { (a.new ≡ replicate (length a.old) 0) × (b.new ≡ replicate (length b.old) 0)
         × (c.new ≡ replicate (length c.old) 0) × (d.new ≡ replicate (length d.old) 0) }
 {
-    clear_words(a);
-    clear_words(b);
-    clear_words(c);
-    clear_words(d);
+    clear(a);
+    clear(b);
+    clear(c);
+    clear(d);
 }
 
 fn clear_three(a: &mut [u32], b: &mut [u32], c: &mut [u32])
     ensures { (a.new ≡ replicate (length a.old) 0) × (b.new ≡ replicate (length b.old) 0) × (c.new ≡ replicate (length c.old) 0) }
 {
-    clear_words(a);
-    clear_words(b);
-    clear_words(c);
+    clear(a);
+    clear(b);
+    clear(c);
 }
 
 // What stands when check 7 refuses.
@@ -27,9 +27,9 @@ pub fn clear_numbers(keys: &mut [u64], numbers: &mut [u32], offs: &mut [u64])
     ensures { (keys.new ≡ replicate (length keys.old) 0) × (numbers.new ≡ replicate (length numbers.old) 0)
         × (offs.new ≡ replicate (length offs.old) 0) }
 {
-    clear_longs(keys);
-    clear_words(numbers);
-    clear_longs(offs);
+    clear(keys);
+    clear(numbers);
+    clear(offs);
 }
 
 pub fn clear_all(

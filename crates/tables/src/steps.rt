@@ -12,7 +12,7 @@ use crate::clearing::{clear_four, clear_numbers};
 use analyses::{name_variables, number_values, read_tables, variables};
 use marks::roots::read_roots;
 use sums::outside::refused7;
-use zeros::{clear_longs, clear_words};
+use zeros::clear;
 
 // The text's section of edition 1.
 const TEXT: u32 = 8;
@@ -78,7 +78,7 @@ fn name_all(
     ensures entry_read { EntryRead f.now (width f.now) spare.new }
 {
     variables(roots, places, f, keys, numbers, loads, live, phi, spare);
-    clear_words(spare);
+    clear(spare);
     name_variables(
         names, marks, spare, f, numbers, roots, places, order, starts,
     );
@@ -153,6 +153,6 @@ pub fn analyse(
         order, starts, loads, live, phi, spare, roots, places, names, marks, labels, f, keys,
         numbers, offs,
     );
-    clear_longs(keys);
+    clear(keys);
     0
 }

@@ -5,13 +5,13 @@ ghost use Rattle.std.specs.Prelude.{◌≡◌, ◌<◌, length};
 ghost use Rattle.definition.specs.Lists.{range};
 ghost use Rattle.unions.specs.Roots.{under, root_at, roots_of, linked, join};
 
-use slices::{at_u32, at_u64, put_u32};
+use slices::{get, put};
 
 // Number i has a lesser key than number j.
 fn less(keys: &[u64], i: u32, j: u32) -> bool
     ensures { result ≡ under keys.now i j }
 {
-    at_u64(keys, i as usize) < at_u64(keys, j as usize)
+    get(keys, i as usize) < get(keys, j as usize)
 }
 
 // The root over x.
@@ -19,10 +19,10 @@ fn top(roots: &[u32], keys: &[u64], x: u32) -> u32
     ensures { result ≡ root_at keys.now roots.now x }
 {
     let mut r = x;
-    let mut p = at_u32(roots, x as usize);
+    let mut p = get(roots, x as usize);
     while less(keys, p, r) {
         r = p;
-        p = at_u32(roots, r as usize);
+        p = get(roots, r as usize);
     }
     r
 }
@@ -33,11 +33,11 @@ fn shorten(roots: &mut [u32], keys: &[u64], x: u32, r: u32)
     ensures { roots_of keys.now roots.new ≡ roots_of keys.now roots.old }
 {
     let mut c = x;
-    let mut p = at_u32(roots, x as usize);
+    let mut p = get(roots, x as usize);
     while less(keys, p, c) {
-        put_u32(roots, c as usize, r);
+        put(roots, c as usize, r);
         c = p;
-        p = at_u32(roots, c as usize);
+        p = get(roots, c as usize);
     }
 }
 
@@ -56,11 +56,11 @@ fn link(roots: &mut [u32], keys: &[u64], x: u32, y: u32)
     ensures { roots.new ≡ linked keys.now roots.old x y }
 {
     if less(keys, y, x) {
-        put_u32(roots, x as usize, y);
+        put(roots, x as usize, y);
         return;
     }
     if less(keys, x, y) {
-        put_u32(roots, y as usize, x);
+        put(roots, y as usize, x);
     }
 }
 

@@ -6,7 +6,7 @@ ghost use Rattle.uses.specs.Loads.{load_of, Loads};
 
 use records::contents::{EXPRESSIONS, expr_word, size_of};
 use records::owners::{BIN, LOAD, UN};
-use slices::at_u32;
+use slices::get;
 
 // Of expression i, where the table has the answers for those below it and zeros behind.
 fn load_of(loads: &[u32], f: &[u8], i: u32) -> u32
@@ -17,15 +17,15 @@ fn load_of(loads: &[u32], f: &[u8], i: u32) -> u32
         return 1;
     }
     if t == UN {
-        return at_u32(loads, expr_word(f, i, 3) as usize);
+        return get(loads, expr_word(f, i, 3) as usize);
     }
     if t != BIN {
         return 0;
     }
-    if at_u32(loads, expr_word(f, i, 3) as usize) == 1 {
+    if get(loads, expr_word(f, i, 3) as usize) == 1 {
         return 1;
     }
-    at_u32(loads, expr_word(f, i, 4) as usize)
+    get(loads, expr_word(f, i, 4) as usize)
 }
 
 pub fn loads(loads: &mut [u32], f: &[u8])

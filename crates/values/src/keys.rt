@@ -13,7 +13,7 @@ use places::key::{input_key, item_key, key_at};
 use places::places_of;
 use records::contents::{ARGS, EXPRESSIONS, PHIS, STATEMENTS, size_of};
 use records::owners::{items_of, phi_inputs};
-use slices::put_u64;
+use slices::put;
 
 // A section in which each record is one place, from place `from` on.
 fn lay_section(keys: &mut [u64], f: &[u8], s: u32, from: usize)
@@ -24,7 +24,7 @@ fn lay_section(keys: &mut [u64], f: &[u8], s: u32, from: usize)
     let n = size_of(f, s);
     let mut i = 0;
     while i < n {
-        put_u64(keys, from + i as usize, key_at(f, s, i));
+        put(keys, from + i as usize, key_at(f, s, i));
         i += 1;
     }
 }
@@ -39,7 +39,7 @@ fn lay_phi(keys: &mut [u64], f: &[u8], i: u32, first: u32, from: usize)
     let n = phi_inputs(f, i);
     let mut j = 0;
     while j < n {
-        put_u64(keys, from + j as usize, input_key(f, i, first + j));
+        put(keys, from + j as usize, input_key(f, i, first + j));
         j += 1;
     }
 }
@@ -70,7 +70,7 @@ fn lay_stmt(keys: &mut [u64], f: &[u8], i: u32, first: u32, from: usize)
     let n = items_of(f, i) as u32;
     let mut j = 0;
     while j < n {
-        put_u64(keys, from + j as usize, item_key(f, i, first, j));
+        put(keys, from + j as usize, item_key(f, i, first, j));
         j += 1;
     }
 }

@@ -3,8 +3,8 @@ ghost use Rattle.std.specs.Prelude.{◌≡◌, ◌≤◌, ◌<◌, length, repli
 ghost use Rattle.values.specs.Tables.{numbers_of};
 ghost use Rattle.values.specs.Chains.{walked, Chained, Numbered, Emptied};
 
-use slices::{at_u32, at_u64, put_u32};
-use zeros::clear_words;
+use slices::{get, put};
+use zeros::clear;
 
 // Along a chain from place top - 1 on: where key k stands, and 1 more, or 0. A chain only leads down.
 fn walk(keys: &[u64], next: &[u32], top: u32, k: u64) -> u32
@@ -13,10 +13,10 @@ fn walk(keys: &[u64], next: &[u32], top: u32, k: u64) -> u32
     let mut x = top;
     while x > 0 {
         let here = x as usize - 1;
-        if at_u64(keys, here) == k {
+        if get(keys, here) == k {
             return x;
         }
-        let y = at_u32(next, here);
+        let y = get(next, here);
         if y >= x {
             return 0;
         }
@@ -31,18 +31,18 @@ fn number(heads: &mut [u32], next: &mut [u32], keys: &[u64], i: usize) -> u32
     requires i_in_bounds { (i < length keys.now) × (length keys.now ≤ length next.old) × (length keys.now < 4294967296) × (0 < length heads.old) }
     ensures { Numbered keys.now i result heads.new next.new }
 {
-    let k = at_u64(keys, i);
+    let k = get(keys, i);
     if k == 0 {
         return 0;
     }
     let b = (k % (heads.len() as u64)) as usize;
-    let top = at_u32(heads, b);
+    let top = get(heads, b);
     let x = walk(keys, next, top, k);
     if x > 0 {
         return x - 1;
     }
-    put_u32(next, i, top);
-    put_u32(heads, b, i as u32 + 1);
+    put(next, i, top);
+    put(heads, b, i as u32 + 1);
     i as u32
 }
 
@@ -53,7 +53,7 @@ fn number_all(numbers: &mut [u32], heads: &mut [u32], next: &mut [u32], keys: &[
 {
     let mut i = 0;
     while i < keys.len() {
-        put_u32(numbers, i, number(heads, next, keys, i));
+        put(numbers, i, number(heads, next, keys, i));
         i += 1;
     }
 }
@@ -63,8 +63,8 @@ pub fn numbers(numbers: &mut [u32], heads: &mut [u32], next: &mut [u32], keys: &
     requires { (length numbers.old ≡ length keys.now) × (length keys.now ≤ length next.old) × (length keys.now < 4294967296) × (0 < length heads.old) }
     ensures { Emptied keys.now numbers.new heads.new next.new (length heads.old) (length next.old) }
 {
-    clear_words(heads);
+    clear(heads);
     number_all(numbers, heads, next, keys);
-    clear_words(heads);
-    clear_words(next);
+    clear(heads);
+    clear(next);
 }

@@ -10,4 +10,4 @@ pub join_run-requires : goal.join_run-requires
 join_run-requires c = run_asks _ _ _ _ c.requires.0 _ _ _ _ refl c.requires.1 c.requires.2 _ (phi_count _ _ _ c.phi_at-phi.ensures)
 
 pub returns : goal.returns
-returns c = phi_joins _ _ _ _ _ _ _ c.phi_at-phi.ensures c.of_rsp.ensures _ _ _ _ c.if-of_rsp.false c.requires.2 c.at_u32-a.ensures c.join_run.ensures
+returns c = phi_joins _ _ _ _ _ _ _ c.phi_at-phi.ensures c.of_rsp.ensures _ _ _ _ c.if-of_rsp.false c.requires.2 c.get-a.ensures c.join_run.ensures

@@ -2,11 +2,11 @@
 use Rattle.classes.proofs.Turns.{kept_none, kept_other, kept_here}
 use Rattle.classes.proofs.keep.Goals as goal
 
-pub returns-then-at_u64-eq0 : goal.returns-then-at_u64-eq0
-returns-then-at_u64-eq0 c = kept_none _ _ _ _ _ c.at_u64.ensures c.if-at_u64-eq0.true
+pub returns-then-get-eq0 : goal.returns-then-get-eq0
+returns-then-get-eq0 c = kept_none _ _ _ _ _ c.get.ensures c.if-get-eq0.true
 
-pub returns-then-at_u32-i : goal.returns-then-at_u32-i
-returns-then-at_u32-i c = kept_other _ _ _ _ _ c.at_u64.ensures _ c.if-at_u64-eq0.false c.at_u32.ensures c.if-at_u32-i.true
+pub returns-then-get-i : goal.returns-then-get-i
+returns-then-get-i c = kept_other _ _ _ _ _ c.get.ensures _ c.if-get-eq0.false c.get.ensures c.if-get-i.true
 
 pub returns : goal.returns
-returns c = kept_here _ _ _ _ _ c.at_u64.ensures _ c.if-at_u64-eq0.false c.at_u32.ensures c.if-at_u32-i.false
+returns c = kept_here _ _ _ _ _ c.get.ensures _ c.if-get-eq0.false c.get.ensures c.if-get-i.false

@@ -13,7 +13,7 @@ loop-i-smaller c = omega (arith, length-set c.loop-i.roots c.loop-i.i c.keep.res
 
 pub loop-i-preserved : goal.loop-i-preserved
 loop-i-preserved c = (
-  spare_turn _ _ _ _ _ _ _ c.loop-i-test.true c.at_u32-x.ensures c.keep.ensures c.loop-i.invariant.0,
+  spare_turn _ _ _ _ _ _ _ c.loop-i-test.true c.get-x.ensures c.keep.ensures c.loop-i.invariant.0,
   omega (arith, length-set c.loop-i.roots c.loop-i.i c.keep.result),
   simp length-set c.loop-i.invariant.2,
 )

@@ -14,7 +14,7 @@ loop-i-preserved c = let l = c.loop-i in
       omega (arith, place_count _ _ _ _ _ _ t.ensures, l.invariant.0),
       omega arith,
       t.auto.rows ∙ l.invariant.2,
-      l.invariant.3 ∙ gather_turn (kept_row _ _) _ _ _ _ c.loop-i-test.true _ c.at_u64-w.ensures _ c.is_kept-kept.ensures _ _ t.ensures,
+      l.invariant.3 ∙ gather_turn (kept_row _ _) _ _ _ _ c.loop-i-test.true _ c.get-w.ensures _ c.is_kept-kept.ensures _ _ t.ensures,
     )
 
 pub returns : goal.returns

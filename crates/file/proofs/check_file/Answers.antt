@@ -29,13 +29,13 @@ pass6 c = seen refused6 _ _ _ _ c.first-e.ensures c.refused6.ensures.0 c.if-refu
 
 pub returns-then-owners-ne-OWNERS : goal.returns-then-owners-ne-OWNERS
 returns-then-owners-ne-OWNERS c =
-    not_lent _ _ _ c.clear_words.ensures (λ q. omega arith)
+    not_lent _ _ _ c.clear.ensures (λ q. omega arith)
 
 pub returns-then-refused2 : goal.returns-then-refused2
 returns-then-refused2 c =
     let t = c.args.owners.now in
-    let u = c.clear_words.new.table in
-    let e = c.clear_words.ensures in
+    let u = c.clear.new.table in
+    let e = c.clear.ensures in
     let k : length u ≡ 2048 = omega arith in
     answered _ t u u _ e k (untouched c.args.f.now t u e)
     (by_2 _ (seen refused2 _ _ _ _ c.first-e.ensures c.refused2.ensures c.if-refused2.true))
@@ -43,8 +43,8 @@ returns-then-refused2 c =
 pub returns-then-refused3 : goal.returns-then-refused3
 returns-then-refused3 c =
     let t = c.args.owners.now in
-    let u = c.clear_words.new.table in
-    let e = c.clear_words.ensures in
+    let u = c.clear.new.table in
+    let e = c.clear.ensures in
     let k : length u ≡ 2048 = omega arith in
     answered _ t u u _ e k (untouched c.args.f.now t u e)
     (by_3 _ (pass2 (goal.at.returns-then-refused3 c).Else-refused2) (seen refused3 _ _ _ _ c.first-e.ensures c.refused3.ensures c.if-refused3.true))
@@ -52,8 +52,8 @@ returns-then-refused3 c =
 pub returns-then-refused4 : goal.returns-then-refused4
 returns-then-refused4 c =
     let t = c.args.owners.now in
-    let u = c.clear_words.new.table in
-    let e = c.clear_words.ensures in
+    let u = c.clear.new.table in
+    let e = c.clear.ensures in
     let k : length u ≡ 2048 = omega arith in
     answered _ t u u _ e k (untouched c.args.f.now t u e)
     (by_4 _ (pass2 (goal.at.returns-then-refused4 c).Else-refused2) (pass3 (goal.at.returns-then-refused4 c).Else-refused3) (seen refused4 _ _ _ _ c.first-e.ensures c.refused4.ensures c.if-refused4.true))
@@ -64,26 +64,26 @@ refused5-requires c = record { f_value = shape_owned edition1 _ (pass4 (goal.at.
 pub returns-then-refused5 : goal.returns-then-refused5
 returns-then-refused5 c =
     let t = c.args.owners.now in
-    let u = c.clear_words.new.table in
+    let u = c.clear.new.table in
     let k : length u ≡ 2048 = omega arith in
-    answered _ t u _ _ c.clear_words.ensures k c.refused5.ensures.left
+    answered _ t u _ _ c.clear.ensures k c.refused5.ensures.left
     (by_5 _ (pass2 (goal.at.returns-then-refused5 c).Else-refused2) (pass3 (goal.at.returns-then-refused5 c).Else-refused3) (pass4 (goal.at.returns-then-refused5 c).Else-refused4) (seen refused5 _ _ _ _ c.first-e.ensures c.refused5.ensures.says c.if-refused5.true))
 
 pub refused6-requires : goal.refused6-requires
-refused6-requires c = record { f_value = shape_owned edition1 _ (pass4 (goal.at.refused6-requires c).Else-refused4); scratch_value = untouched c.args.f.now c.clear_words.new.table _ c.refused5.ensures.left }
+refused6-requires c = record { f_value = shape_owned edition1 _ (pass4 (goal.at.refused6-requires c).Else-refused4); scratch_value = untouched c.args.f.now c.clear.new.table _ c.refused5.ensures.left }
 
 pub returns-then-refused6 : goal.returns-then-refused6
 returns-then-refused6 c =
     let t = c.args.owners.now in
-    let u = c.clear_words.new.table in
+    let u = c.clear.new.table in
     let k : length u ≡ 2048 = omega arith in
-    answered _ t u _ _ c.clear_words.ensures k (zeros_again c.args.f.now u _ _ c.refused5.ensures.left c.refused6.ensures.1)
+    answered _ t u _ _ c.clear.ensures k (zeros_again c.args.f.now u _ _ c.refused5.ensures.left c.refused6.ensures.1)
     (by_6 _ (pass2 (goal.at.returns-then-refused6 c).Else-refused2) (pass3 (goal.at.returns-then-refused6 c).Else-refused3) (pass4 (goal.at.returns-then-refused6 c).Else-refused4) (pass5 (goal.at.returns-then-refused6 c).Else-refused5) (seen refused6 _ _ _ _ c.first-e.ensures c.refused6.ensures.0 c.if-refused6.true))
 
 pub returns : goal.returns
 returns c =
     let t = c.args.owners.now in
-    let u = c.clear_words.new.table in
+    let u = c.clear.new.table in
     let k : length u ≡ 2048 = omega arith in
-    answered _ t u _ _ c.clear_words.ensures k (zeros_again c.args.f.now u _ _ c.refused5.ensures.left c.refused6.ensures.1)
+    answered _ t u _ _ c.clear.ensures k (zeros_again c.args.f.now u _ _ c.refused5.ensures.left c.refused6.ensures.1)
     (by_none _ (pass2 (goal.at.returns c).Else-refused2) (pass3 (goal.at.returns c).Else-refused3) (pass4 (goal.at.returns c).Else-refused4) (pass5 (goal.at.returns c).Else-refused5) (pass6 (goal.at.returns c).Else-refused6))

@@ -7,4 +7,4 @@ pub overflow_add-p : goal.overflow_add-p
 overflow_add-p c = omega (arith, places_small _ _ c.type_inv.f c.places_of-p.ensures)
 
 pub returns : goal.returns
-returns c = number_is _ _ _ _ _ c.places_of-p.ensures c.at_u32.ensures
+returns c = number_is _ _ _ _ _ c.places_of-p.ensures c.get.ensures

@@ -11,8 +11,8 @@ returns-then-stmt_kind-ne-ASSIGN c = once_other _ _ _ _ _ c.is_dead.ensures _ c.
 pub returns-then-stmt_field-eq-RSP : goal.returns-then-stmt_field-eq-RSP
 returns-then-stmt_field-eq-RSP c = once_rsp _ _ _ _ _ c.is_dead.ensures _ c.if-is_dead.false c.stmt_kind.ensures _ c.if-stmt_kind-ne-ASSIGN.false c.stmt_field.ensures c.if-stmt_field-eq-RSP.true
 
-pub returns-then-at_u32-ne0 : goal.returns-then-at_u32-ne0
-returns-then-at_u32-ne0 c = once_phi _ _ _ _ _ c.is_dead.ensures _ c.if-is_dead.false c.stmt_kind.ensures _ c.if-stmt_kind-ne-ASSIGN.false c.stmt_field.ensures _ c.if-stmt_field-eq-RSP.false c.at_u32.ensures c.if-at_u32-ne0.true
+pub returns-then-get-ne0 : goal.returns-then-get-ne0
+returns-then-get-ne0 c = once_phi _ _ _ _ _ c.is_dead.ensures _ c.if-is_dead.false c.stmt_kind.ensures _ c.if-stmt_kind-ne-ASSIGN.false c.stmt_field.ensures _ c.if-stmt_field-eq-RSP.false c.get.ensures c.if-get-ne0.true
 
 pub returns : goal.returns
-returns c = once_is _ _ _ _ _ c.is_dead.ensures _ c.if-is_dead.false c.stmt_kind.ensures _ c.if-stmt_kind-ne-ASSIGN.false c.stmt_field.ensures _ c.if-stmt_field-eq-RSP.false c.at_u32.ensures _ c.if-at_u32-ne0.false c.at_u32-2.ensures
+returns c = once_is _ _ _ _ _ c.is_dead.ensures _ c.if-is_dead.false c.stmt_kind.ensures _ c.if-stmt_kind-ne-ASSIGN.false c.stmt_field.ensures _ c.if-stmt_field-eq-RSP.false c.get.ensures _ c.if-get-ne0.false c.get-2.ensures

@@ -8,4 +8,4 @@ pub raise-requires : goal.raise-requires
 raise-requires c = (omega arith, omega (arith, length-set c.args.rows.now c.args.k c.turn.result))
 
 pub returns : goal.returns
-returns c = form_do_lem _ _ _ _ _ _ _ _ _ c.at_u64-w.ensures c.at_u64-b.ensures c.up.ensures c.turn.ensures c.raise.ensures c.turn-2.ensures
+returns c = form_do_lem _ _ _ _ _ _ _ _ _ c.get-w.ensures c.get-b.ensures c.up.ensures c.turn.ensures c.raise.ensures c.turn-2.ensures

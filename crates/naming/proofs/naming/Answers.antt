@@ -18,4 +18,4 @@ returns c =
     let pre = c.requires in
     let see_params = c.see_params in
     let name_blocks = c.name_blocks in
-    names_all given.f.now c.type_inv.f given.numbers.now _ _ _ pre.numbered pre.numbers_len_bound _ c.params-n.ensures _ _ _ _ _ _ _ pre.names_value see_params.ensures name_blocks.ensures c.clear_words.ensures (name_blocks.auto.seen ∙ see_params.auto.seen ∙ ap length pre.names_value.1 ∙ length-replicate _ _)
+    names_all given.f.now c.type_inv.f given.numbers.now _ _ _ pre.numbered pre.numbers_len_bound _ c.params-n.ensures _ _ _ _ _ _ _ pre.names_value see_params.ensures name_blocks.ensures c.clear.ensures (name_blocks.auto.seen ∙ see_params.auto.seen ∙ ap length pre.names_value.1 ∙ length-replicate _ _)

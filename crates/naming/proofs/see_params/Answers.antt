@@ -10,7 +10,7 @@ pub overflow_mul-i : goal.overflow_mul-i
 overflow_mul-i c = omega (arith, c.loop-i.invariant.1, c.requires)
 
 pub loop-i-preserved : goal.loop-i-preserved
-loop-i-preserved c = let inv = c.loop-i.invariant in (inv.0 ∙ seen_turn _ _ _ _ _ _ _ c.loop-i-test.true c.at_u32.ensures c.at_u32-r.ensures c.put_u32.ensures, omega (arith, inv.1), c.put_u32.auto.l ∙ inv.2)
+loop-i-preserved c = let inv = c.loop-i.invariant in (inv.0 ∙ seen_turn _ _ _ _ _ _ _ c.loop-i-test.true c.get.ensures c.get-r.ensures c.put.ensures, omega (arith, inv.1), c.put.auto.l ∙ inv.2)
 
 pub returns : goal.returns
 returns c = let z : c.loop-i.i ≡ 0 = omega arith in seen_end _ _ _ _ _ z c.loop-i.invariant.0

@@ -4,4 +4,4 @@ use Rattle.owned.proofs.Once.{once_answer}
 use Rattle.owned.proofs.owned_once.Goals as goal
 
 pub returns : goal.returns
-returns c = once_answer _ _ _ _ _ _ _ _ c.clear_words.ensures c.tally_statements.ensures c.tally_expressions.ensures c.size_of.ensures (omega (arith, c.requires.expressions_in_bounds, c.size_of.ensures)) c.all_once-once.ensures c.clear_words-2.ensures
+returns c = once_answer _ _ _ _ _ _ _ _ c.clear.ensures c.tally_statements.ensures c.tally_expressions.ensures c.size_of.ensures (omega (arith, c.requires.expressions_in_bounds, c.size_of.ensures)) c.all_once-once.ensures c.clear-2.ensures

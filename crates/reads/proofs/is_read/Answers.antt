@@ -2,8 +2,8 @@
 use Rattle.reads.proofs.ReadAtAll.{read_live, read_phi}
 use Rattle.reads.proofs.is_read.Goals as goal
 
-pub returns-then-at_u32-ne0 : goal.returns-then-at_u32-ne0
-returns-then-at_u32-ne0 c = read_live _ _ _ _ c.at_u32.ensures c.if-at_u32-ne0.true
+pub returns-then-get-ne0 : goal.returns-then-get-ne0
+returns-then-get-ne0 c = read_live _ _ _ _ c.get.ensures c.if-get-ne0.true
 
 pub returns : goal.returns
-returns c = read_phi _ _ _ _ c.at_u32.ensures _ c.if-at_u32-ne0.false c.at_u32-2.ensures
+returns c = read_phi _ _ _ _ c.get.ensures _ c.if-get-ne0.false c.get-2.ensures

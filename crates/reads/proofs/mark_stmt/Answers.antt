@@ -11,4 +11,4 @@ pub overflow_add-i : goal.overflow_add-i
 overflow_add-i c = omega (arith, c.requires.base_bound, size_small c.args.f.now c.type_inv.f 4)
 
 pub returns : goal.returns
-returns c = visit_live _ _ _ _ _ _ c.is_dead.ensures _ _ _ _ _ _ c.requires.runs c.requires.base_bound.1 c.if-is_dead.false c.at_u32-a.ensures c.at_u32.ensures c.mark_run.ensures
+returns c = visit_live _ _ _ _ _ _ c.is_dead.ensures _ _ _ _ _ _ c.requires.runs c.requires.base_bound.1 c.if-is_dead.false c.get-a.ensures c.get.ensures c.mark_run.ensures

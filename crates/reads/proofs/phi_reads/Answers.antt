@@ -14,7 +14,7 @@ pub overflow_add-base : goal.overflow_add-base
 overflow_add-base c = omega (arith, inputs_low _ c.type_inv.f _ c.loop-k.invariant.2)
 
 pub loop-k-preserved : goal.loop-k-preserved
-loop-k-preserved c = let inv = c.loop-k.invariant in (inv.0 ∙ row_turn _ _ _ _ _ _ _ _ c.loop-k-test.true c.at_u32.ensures (place_is _ _ _ _ c.put_u32.ensures), inv.1, inv.2, c.put_u32.auto.l ∙ inv.3)
+loop-k-preserved c = let inv = c.loop-k.invariant in (inv.0 ∙ row_turn _ _ _ _ _ _ _ _ c.loop-k-test.true c.get.ensures (place_is _ _ _ _ c.put.ensures), inv.1, inv.2, c.put.auto.l ∙ inv.3)
 
 pub returns : goal.returns
 returns c = λ E. let inv = c.loop-k.invariant in row_end _ _ _ _ _ _ _ c.loop-k-test.false inv.0 ∙ phi_done _ _ _ _ _ c.requires c.type_inv.f inv.2 inv.1 E

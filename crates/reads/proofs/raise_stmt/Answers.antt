@@ -6,4 +6,4 @@ pub returns-then-is_dead : goal.returns-then-is_dead
 returns-then-is_dead c = visit_dead _ _ _ _ _ _ c.is_dead.ensures _ c.if-is_dead.true
 
 pub returns : goal.returns
-returns c = visit_live _ _ _ _ _ _ c.is_dead.ensures _ _ _ _ _ _ c.requires.runs c.requires.base_bound.1 c.if-is_dead.false c.at_u32-a.ensures c.at_u32.ensures c.raise_run.ensures
+returns c = visit_live _ _ _ _ _ _ c.is_dead.ensures _ _ _ _ _ _ c.requires.runs c.requires.base_bound.1 c.if-is_dead.false c.get-a.ensures c.get.ensures c.raise_run.ensures

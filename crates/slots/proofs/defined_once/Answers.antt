@@ -5,7 +5,7 @@ use lib.ListN.{replicate}
 use Rattle.slots.proofs.defined_once.Goals as goal
 
 pub returns-then-told : goal.returns-then-told
-returns-then-told c = (sym (c.slots_tell-told.ensures c.if-told.true), c.clear_words.ensures ∙ ap (λ (n : ℕ). replicate n 0) c.slots_tell-told.auto.table)
+returns-then-told c = (sym (c.slots_tell-told.ensures c.if-told.true), c.clear.ensures ∙ ap (λ (n : ℕ). replicate n 0) c.slots_tell-told.auto.table)
 
 pub returns : goal.returns
-returns c = (c.scan_once.ensures, c.clear_words.ensures ∙ ap (λ (n : ℕ). replicate n 0) c.slots_tell-told.auto.table)
+returns c = (c.scan_once.ensures, c.clear.ensures ∙ ap (λ (n : ℕ). replicate n 0) c.slots_tell-told.auto.table)

@@ -3,4 +3,4 @@ use Rattle.unions.proofs.Orders.{less_is}
 use Rattle.unions.proofs.less.Goals as goal
 
 pub returns : goal.returns
-returns c = less_is _ _ _ _ _ c.at_u64.ensures c.at_u64-2.ensures
+returns c = less_is _ _ _ _ _ c.get.ensures c.get-2.ensures

@@ -4,11 +4,11 @@ use lib.Seq.{length-take-le}
 use Rattle.lowered.proofs.Clearing.{front_gone}
 use Rattle.lowered.proofs.emptying.clear_handed.Goals as goal
 
-pub slice_bounds-clear_longs-end : goal.slice_bounds-clear_longs-end
-slice_bounds-clear_longs-end c = c.requires.offs
+pub slice_bounds-clear-end : goal.slice_bounds-clear-end
+slice_bounds-clear-end c = c.requires.offs
 
-pub slice_bounds-clear_longs-end-2 : goal.slice_bounds-clear_longs-end-2
-slice_bounds-clear_longs-end-2 c = sym (length-take-le c.args.n c.args.offs.now c.requires.offs)
+pub slice_bounds-clear-end-2 : goal.slice_bounds-clear-end-2
+slice_bounds-clear-end-2 c = sym (length-take-le c.args.n c.args.offs.now c.requires.offs)
 
 pub slice_bounds-clear_four-end : goal.slice_bounds-clear_four-end
 slice_bounds-clear_four-end c = c.requires.numbers
@@ -56,7 +56,7 @@ pub returns : goal.returns
 returns c =
     let given = c.args in
     let pre = c.requires in
-    let clear_longs = c.clear_longs in
+    let clear = c.clear in
     let clear_four = c.clear_four in
     let clear_four2 = c.clear_four-2 in
-    (front_gone given.n given.numbers.now clear_four.new.a pre.numbers clear_four.ensures.0, front_gone given.n given.offs.now clear_longs.new.table pre.offs clear_longs.ensures, front_gone given.n given.places.now clear_four.new.b pre.places clear_four.ensures.1, front_gone given.n given.names.now clear_four.new.c pre.names clear_four.ensures.2, front_gone given.n given.live.now clear_four.new.d pre.live clear_four.ensures.3, front_gone given.n given.phi.now clear_four2.new.a pre.phi clear_four2.ensures.0, front_gone given.n given.roots.now clear_four2.new.b pre.roots clear_four2.ensures.1, front_gone given.n given.marks.now clear_four2.new.c pre.marks clear_four2.ensures.2, clear_four2.ensures.3)
+    (front_gone given.n given.numbers.now clear_four.new.a pre.numbers clear_four.ensures.0, front_gone given.n given.offs.now clear.new.table pre.offs clear.ensures, front_gone given.n given.places.now clear_four.new.b pre.places clear_four.ensures.1, front_gone given.n given.names.now clear_four.new.c pre.names clear_four.ensures.2, front_gone given.n given.live.now clear_four.new.d pre.live clear_four.ensures.3, front_gone given.n given.phi.now clear_four2.new.a pre.phi clear_four2.ensures.0, front_gone given.n given.roots.now clear_four2.new.b pre.roots clear_four2.ensures.1, front_gone given.n given.marks.now clear_four2.new.c pre.marks clear_four2.ensures.2, clear_four2.ensures.3)

@@ -12,4 +12,4 @@ pub mark_run-requires : goal.mark_run-requires
 mark_run-requires c = exprs_low _ c.type_inv.f _ (ap (λ (p : Places). p.exprs) c.requires.ground.where_all)
 
 pub returns : goal.returns
-returns c = λ E k s e. read_some _ E _ k _ _ _ _ (c.passed_over.ensures E k s e) _ _ _ _ _ _ c.requires.ordered c.requires.ground.where_all c.requires.i_bound c.if-passed_over.false c.at_u32-a.ensures c.at_u32-b.ensures c.mark_run.ensures
+returns c = λ E k s e. read_some _ E _ k _ _ _ _ (c.passed_over.ensures E k s e) _ _ _ _ _ _ c.requires.ordered c.requires.ground.where_all c.requires.i_bound c.if-passed_over.false c.get-a.ensures c.get-b.ensures c.mark_run.ensures

@@ -22,4 +22,4 @@ pub returns : goal.returns
 returns c =
     let given = c.args in
     let pre = c.requires in
-    tick_some _ given.f.now _ given.i _ c.passed_over.ensures _ c.if-passed_over.false (c.mark_run.ensures ∙ tick_run _ given.f.now given.order.now _ _ _ _ pre.from_value.0 ∙ ap (ticked _ _) (uses_run given.f.now given.order.now given.starts.now _ _ pre.ordered given.i _ _ pre.from_value.1 c.at_u32-a.ensures c.at_u32-b.ensures))
+    tick_some _ given.f.now _ given.i _ c.passed_over.ensures _ c.if-passed_over.false (c.mark_run.ensures ∙ tick_run _ given.f.now given.order.now _ _ _ _ pre.from_value.0 ∙ ap (ticked _ _) (uses_run given.f.now given.order.now given.starts.now _ _ pre.ordered given.i _ _ pre.from_value.1 c.get-a.ensures c.get-b.ensures))

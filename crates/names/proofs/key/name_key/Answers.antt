@@ -5,11 +5,11 @@ use Rattle.names.proofs.key.name_key.Goals as goal
 pub returns-then-v-eq-RSP : goal.returns-then-v-eq-RSP
 returns-then-v-eq-RSP c = key_rsp _ _ _ _ _ _ _ _ _ c.if-v-eq-RSP.true
 
-pub returns-then-at_u32-ne0 : goal.returns-then-at_u32-ne0
-returns-then-at_u32-ne0 c = key_named _ _ _ _ _ _ _ _ _ c.if-v-eq-RSP.false _ _ c.at_u32-n.ensures c.at_u32.ensures c.if-at_u32-ne0.true
+pub returns-then-get-ne0 : goal.returns-then-get-ne0
+returns-then-get-ne0 c = key_named _ _ _ _ _ _ _ _ _ c.if-v-eq-RSP.false _ _ c.get-n.ensures c.get.ensures c.if-get-ne0.true
 
-pub returns-then-at_u32-ne0-2 : goal.returns-then-at_u32-ne0-2
-returns-then-at_u32-ne0-2 c = key_placed _ _ _ _ _ _ _ _ _ c.if-v-eq-RSP.false _ _ c.at_u32-n.ensures c.at_u32.ensures c.if-at_u32-ne0.false _ c.at_u32-2.ensures c.if-at_u32-ne0-2.true
+pub returns-then-get-ne0-2 : goal.returns-then-get-ne0-2
+returns-then-get-ne0-2 c = key_placed _ _ _ _ _ _ _ _ _ c.if-v-eq-RSP.false _ _ c.get-n.ensures c.get.ensures c.if-get-ne0.false _ c.get-2.ensures c.if-get-ne0-2.true
 
 pub returns : goal.returns
-returns c = key_met _ _ _ _ _ _ _ _ _ c.if-v-eq-RSP.false _ _ c.at_u32-n.ensures c.at_u32.ensures c.if-at_u32-ne0.false _ c.at_u32-2.ensures _ _ c.if-at_u32-ne0-2.false c.at_u32-3.ensures c.meet.ensures
+returns c = key_met _ _ _ _ _ _ _ _ _ c.if-v-eq-RSP.false _ _ c.get-n.ensures c.get.ensures c.if-get-ne0.false _ c.get-2.ensures _ _ c.if-get-ne0-2.false c.get-3.ensures c.meet.ensures

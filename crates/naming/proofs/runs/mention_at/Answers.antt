@@ -22,4 +22,4 @@ pub returns-in-Items : goal.returns-in-Items
 returns-in-Items c = item_spot_lem _ _ _ c.args.run _ c.requires _ (cc) c.item_value-v.ensures
 
 pub returns-in-Uses : goal.returns-in-Uses
-returns-in-Uses c = use_spot_lem _ _ _ c.args.run _ c.requires _ _ _ (cc) c.at_u32-n.ensures c.expr_word.ensures c.expr_word-in-Uses.ensures
+returns-in-Uses c = use_spot_lem _ _ _ c.args.run _ c.requires _ _ _ (cc) c.get-n.ensures c.expr_word.ensures c.expr_word-in-Uses.ensures

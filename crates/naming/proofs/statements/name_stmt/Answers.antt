@@ -39,4 +39,4 @@ name_run-requires c = c.requires.laid.are
 
 pub returns : goal.returns
 unfolding run_spot
-returns c = stmt_live _ _ _ _ _ c.is_dead.ensures c.if-is_dead.false _ _ _ _ _ _ c.requires.stmt_bound.1 c.expr_items.ensures c.value_items.ensures c.name_fields-next.ensures c.name_run-next.ensures (c.name_run.ensures ∙ ap (walked _ _) (uses_run c.args.f.now c.args.order.now c.args.starts.now _ _ c.requires.laid.flat c.args.w.stmt _ _ c.requires.stmt_bound.0 c.at_u32-x.ensures c.at_u32-y.ensures))
+returns c = stmt_live _ _ _ _ _ c.is_dead.ensures c.if-is_dead.false _ _ _ _ _ _ c.requires.stmt_bound.1 c.expr_items.ensures c.value_items.ensures c.name_fields-next.ensures c.name_run-next.ensures (c.name_run.ensures ∙ ap (walked _ _) (uses_run c.args.f.now c.args.order.now c.args.starts.now _ _ c.requires.laid.flat c.args.w.stmt _ _ c.requires.stmt_bound.0 c.get-x.ensures c.get-y.ensures))

@@ -10,10 +10,10 @@ unfolding deep_in
 loop-k-init c = refl
 
 pub returns-then-too_deep : goal.returns-then-too_deep
-returns-then-too_deep c = some_hit _ _ _ _ c.loop-k-test.true _ c.at_u64.ensures _ c.too_deep.ensures c.if-too_deep.true ∙ sym c.loop-k.invariant
+returns-then-too_deep c = some_hit _ _ _ _ c.loop-k-test.true _ c.get.ensures _ c.too_deep.ensures c.if-too_deep.true ∙ sym c.loop-k.invariant
 
 pub loop-k-preserved : goal.loop-k-preserved
-loop-k-preserved c = c.loop-k.invariant ∙ some_on _ _ _ _ c.loop-k-test.true _ c.at_u64.ensures _ c.too_deep.ensures c.if-too_deep.false
+loop-k-preserved c = c.loop-k.invariant ∙ some_on _ _ _ _ c.loop-k-test.true _ c.get.ensures _ c.too_deep.ensures c.if-too_deep.false
 
 pub returns : goal.returns
 returns c = some_none _ _ _ _ c.loop-k-test.false ∙ sym c.loop-k.invariant

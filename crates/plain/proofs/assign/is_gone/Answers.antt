@@ -9,4 +9,4 @@ pub returns-then-stmt_field-eq-RSP : goal.returns-then-stmt_field-eq-RSP
 returns-then-stmt_field-eq-RSP c = gone_rsp _ _ _ _ c.is_dead.ensures c.if-is_dead.false _ c.stmt_field.ensures c.if-stmt_field-eq-RSP.true
 
 pub returns : goal.returns
-returns c = gone_placed _ _ _ _ c.is_dead.ensures c.if-is_dead.false _ c.stmt_field.ensures _ c.if-stmt_field-eq-RSP.false c.at_u32.ensures
+returns c = gone_placed _ _ _ _ c.is_dead.ensures c.if-is_dead.false _ c.stmt_field.ensures _ c.if-stmt_field-eq-RSP.false c.get.ensures

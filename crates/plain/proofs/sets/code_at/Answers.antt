@@ -6,7 +6,7 @@ pub returns-then-item_word-eq-RSP : goal.returns-then-item_word-eq-RSP
 returns-then-item_word-eq-RSP c = code_rsp _ _ _ _ _ _ _ _ c.item_word.ensures c.if-item_word-eq-RSP.true
 
 pub returns-then-is_read : goal.returns-then-is_read
-returns-then-is_read c = code_read _ _ _ _ _ _ _ _ c.item_word.ensures c.if-item_word-eq-RSP.false _ c.number_of-m.ensures _ c.is_read.ensures _ c.if-is_read.true c.at_u32.ensures
+returns-then-is_read c = code_read _ _ _ _ _ _ _ _ c.item_word.ensures c.if-item_word-eq-RSP.false _ c.number_of-m.ensures _ c.is_read.ensures _ c.if-is_read.true c.get.ensures
 
 pub returns : goal.returns
 returns c = code_unread _ _ _ _ _ _ _ _ c.item_word.ensures c.if-item_word-eq-RSP.false _ c.number_of-m.ensures _ c.is_read.ensures c.if-is_read.false

@@ -68,7 +68,7 @@ pub value-returns-then-out : goal.value-returns-then-out
 value-returns-then-out t c = λ E e. stays _ _ _ _ c.if-out.true
 
 pub value-returns-then-s-ne0 : goal.value-returns-then-s-ne0
-value-returns-then-s-ne0 t c = value_address _ _ _ _ _ _ _ c.requires.told _ _ c.requires.named_at _ _ _ _ _ _ c.at_u32-v.ensures c.at_u64-s.ensures c.if-s-ne0.true c.put_address.ensures
+value-returns-then-s-ne0 t c = value_address _ _ _ _ _ _ _ c.requires.told _ _ c.requires.named_at _ _ _ _ _ _ c.get-v.ensures c.get-s.ensures c.if-s-ne0.true c.put_address.ensures
 
 pub value-overflow_sub-i : goal.value-overflow_sub-i
 value-overflow_sub-i t c = (was_open _ _ _ c.is_open.ensures c.if-is_open.true).some
@@ -77,7 +77,7 @@ pub value-below-requires : goal.value-below-requires
 value-below-requires t c = (open_falls _ _ _ _ _ c.decreases (was_open _ _ _ c.is_open.ensures c.if-is_open.true) c.type_inv.f c.size_of.ensures, (c.requires.told, all_within _ _ c.size_of.ensures))
 
 pub value-returns-then-is_open : goal.value-returns-then-is_open
-value-returns-then-is_open t c = value_opened _ _ _ _ _ _ _ c.requires.told _ _ c.requires.named_at _ _ _ _ _ _ c.at_u32-v.ensures c.at_u64-s.ensures c.if-s-ne0.false _ c.at_u32-k.ensures _ _ _ c.is_open.ensures c.if-is_open.true c.size_of.ensures c.stmt_field.ensures c.below.ensures
+value-returns-then-is_open t c = value_opened _ _ _ _ _ _ _ c.requires.told _ _ c.requires.named_at _ _ _ _ _ _ c.get-v.ensures c.get-s.ensures c.if-s-ne0.false _ c.get-k.ensures _ _ _ c.is_open.ensures c.if-is_open.true c.size_of.ensures c.stmt_field.ensures c.below.ensures
 
 pub value-returns : goal.value-returns
-value-returns t c = value_named _ _ _ _ _ _ _ c.requires.told _ _ c.requires.named_at _ _ _ _ _ _ c.at_u32-v.ensures c.at_u64-s.ensures c.if-s-ne0.false _ c.at_u32-k.ensures _ _ _ c.is_open.ensures c.if-is_open.false c.bits_of.ensures c.at_u32.ensures c.put_code.ensures
+value-returns t c = value_named _ _ _ _ _ _ _ c.requires.told _ _ c.requires.named_at _ _ _ _ _ _ c.get-v.ensures c.get-s.ensures c.if-s-ne0.false _ c.get-k.ensures _ _ _ c.is_open.ensures c.if-is_open.false c.bits_of.ensures c.get.ensures c.put_code.ensures

@@ -2,11 +2,11 @@
 use Rattle.rounds.proofs.Stepping.{learnt_old, learnt_none, learnt_new}
 use Rattle.rounds.proofs.rules.learn.Goals as goal
 
-pub returns-then-at_u64-ne0 : goal.returns-then-at_u64-ne0
-returns-then-at_u64-ne0 c = learnt_old _ _ _ _ c.at_u64.ensures c.if-at_u64-ne0.true
+pub returns-then-get-ne0 : goal.returns-then-get-ne0
+returns-then-get-ne0 c = learnt_old _ _ _ _ c.get.ensures c.if-get-ne0.true
 
 pub returns-then-x-eq0 : goal.returns-then-x-eq0
-returns-then-x-eq0 c = learnt_none _ _ _ _ c.at_u64.ensures c.if-at_u64-ne0.false c.if-x-eq0.true
+returns-then-x-eq0 c = learnt_none _ _ _ _ c.get.ensures c.if-get-ne0.false c.if-x-eq0.true
 
 pub returns : goal.returns
-returns c = learnt_new _ _ _ _ c.at_u64.ensures _ c.if-at_u64-ne0.false c.if-x-eq0.false c.put_u64.ensures
+returns c = learnt_new _ _ _ _ c.get.ensures _ c.if-get-ne0.false c.if-x-eq0.false c.put.ensures

@@ -18,4 +18,4 @@ pub overflow_add-places-2 : goal.overflow_add-places-2
 overflow_add-places-2 c = omega (arith, phi_inside _ _ _ c.requires.ground _ c.requires.i_bound.0)
 
 pub returns : goal.returns
-returns c = phi_ran _ _ _ c.requires.ground c.type_inv.f _ c.requires.tab_len _ _ _ _ _ _ _ _ _ _ c.requires.i_bound.0 c.requires.i_bound.1 c.phi_word.ensures c.is_turn.ensures c.if-not-is_turn.false c.phi_inputs.ensures c.agreed-x.ensures c.at_u32-v.ensures c.learn.ensures
+returns c = phi_ran _ _ _ c.requires.ground c.type_inv.f _ c.requires.tab_len _ _ _ _ _ _ _ _ _ _ c.requires.i_bound.0 c.requires.i_bound.1 c.phi_word.ensures c.is_turn.ensures c.if-not-is_turn.false c.phi_inputs.ensures c.agreed-x.ensures c.get-v.ensures c.learn.ensures

@@ -15,4 +15,4 @@ pub overflow_add-places : goal.overflow_add-places
 overflow_add-places c = omega (arith, stmt_inside _ _ _ c.requires.ground _ c.requires.i_bound)
 
 pub returns : goal.returns
-returns c = assign_ran _ _ _ c.requires.ground c.type_inv.f _ c.requires.tab_len _ _ _ _ _ _ _ _ _ _ _ c.requires.i_bound c.stmt_kind.ensures c.if-stmt_kind-ne-ASSIGN.false c.stmt_field.ensures c.is_turn.ensures c.if-not-is_turn.false c.stmt_field-2.ensures c.stack_off-x.ensures c.at_u32-v.ensures c.learn.ensures
+returns c = assign_ran _ _ _ c.requires.ground c.type_inv.f _ c.requires.tab_len _ _ _ _ _ _ _ _ _ _ _ c.requires.i_bound c.stmt_kind.ensures c.if-stmt_kind-ne-ASSIGN.false c.stmt_field.ensures c.is_turn.ensures c.if-not-is_turn.false c.stmt_field-2.ensures c.stack_off-x.ensures c.get-v.ensures c.learn.ensures

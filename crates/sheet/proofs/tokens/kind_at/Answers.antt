@@ -3,4 +3,4 @@ use Rattle.sheet.proofs.Reading.{kind_is}
 use Rattle.sheet.proofs.tokens.kind_at.Goals as goal
 
 pub returns : goal.returns
-returns c = kind_is _ _ _ c.at_u64.ensures
+returns c = kind_is _ _ _ c.get.ensures

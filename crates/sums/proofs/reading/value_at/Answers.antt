@@ -3,4 +3,4 @@ use Rattle.sums.proofs.Nodes.{value_is}
 use Rattle.sums.proofs.reading.value_at.Goals as goal
 
 pub returns : goal.returns
-returns c = value_is _ _ _ _ _ _ c.at_u32-v.ensures c.at_u64.ensures
+returns c = value_is _ _ _ _ _ _ c.get-v.ensures c.get.ensures

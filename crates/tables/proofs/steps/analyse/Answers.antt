@@ -33,5 +33,5 @@ returns c =
     let number_values = c.number_values in
     let stack = c.stack in
     let read_all = c.read_all in
-    let clear_longs = c.clear_longs in
-    inside _ _ (tables_of clear_longs.new.table number_values.new.numbers read_all.new.spare stack.new.offs read_all.new.order read_all.new.starts read_all.new.loads read_all.new.live read_all.new.phi read_all.new.roots read_all.new.places read_all.new.names read_all.new.marks read_all.new.labels) _ stack.ensures.says c.if-stack.false (staged _ (tables_of given.keys.now given.numbers.now given.spare.now given.offs.now given.order.now given.starts.now given.loads.now given.live.now given.phi.now given.roots.now given.places.now given.names.now given.marks.now given.labels.now) (tables_of clear_longs.new.table number_values.new.numbers read_all.new.spare stack.new.offs read_all.new.order read_all.new.starts read_all.new.loads read_all.new.live read_all.new.phi read_all.new.roots read_all.new.places read_all.new.names read_all.new.marks read_all.new.labels) number_values.new.keys pre.blank number_values.auto.keys clear_longs.ensures (grounded _ _ _ _ pre.sound pre.blank.unvalued.no_keys pre.blank.unvalued.no_numbers number_values.ensures.numbers number_values.auto.numbers) stack.ensures.offs read_all.ensures.counted read_all.ensures.called)
+    let clear = c.clear in
+    inside _ _ (tables_of clear.new.table number_values.new.numbers read_all.new.spare stack.new.offs read_all.new.order read_all.new.starts read_all.new.loads read_all.new.live read_all.new.phi read_all.new.roots read_all.new.places read_all.new.names read_all.new.marks read_all.new.labels) _ stack.ensures.says c.if-stack.false (staged _ (tables_of given.keys.now given.numbers.now given.spare.now given.offs.now given.order.now given.starts.now given.loads.now given.live.now given.phi.now given.roots.now given.places.now given.names.now given.marks.now given.labels.now) (tables_of clear.new.table number_values.new.numbers read_all.new.spare stack.new.offs read_all.new.order read_all.new.starts read_all.new.loads read_all.new.live read_all.new.phi read_all.new.roots read_all.new.places read_all.new.names read_all.new.marks read_all.new.labels) number_values.new.keys pre.blank number_values.auto.keys clear.ensures (grounded _ _ _ _ pre.sound pre.blank.unvalued.no_keys pre.blank.unvalued.no_numbers number_values.ensures.numbers number_values.auto.numbers) stack.ensures.offs read_all.ensures.counted read_all.ensures.called)

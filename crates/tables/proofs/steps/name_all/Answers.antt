@@ -8,7 +8,7 @@ variables-requires c = let pre = c.requires in
 
 pub name_variables-requires : goal.name_variables-requires
 name_variables-requires c = let pre = c.requires in
-    record { nameable = nameable _ _ pre.grounded _ _ _ _ c.variables.ensures pre.read_as.flat; nameless = nameless _ _ pre.grounded _ _ _ _ _ _ _ pre.unnamed pre.unmarked pre.read_as.last c.clear_words.ensures }
+    record { nameable = nameable _ _ pre.grounded _ _ _ _ c.variables.ensures pre.read_as.flat; nameless = nameless _ _ pre.grounded _ _ _ _ _ _ _ pre.unnamed pre.unmarked pre.read_as.last c.clear.ensures }
 
 pub mark-requires : goal.mark-requires
 mark-requires c = let pre = c.requires in

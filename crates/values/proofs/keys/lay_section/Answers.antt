@@ -13,7 +13,7 @@ key_at-requires c = record { f_value = c.requires.f_value; i_bound = omega arith
 
 pub loop-i-preserved : goal.loop-i-preserved
 loop-i-preserved c = let inv = c.loop-i.invariant in
-    (inv.0 ∙ lay_turn _ _ 0 _ _ _ _ _ _ c.loop-i-test.true (omega arith) c.key_at.ensures c.put_u64.ensures, inv.1, c.put_u64.auto.l ∙ inv.2)
+    (inv.0 ∙ lay_turn _ _ 0 _ _ _ _ _ _ c.loop-i-test.true (omega arith) c.key_at.ensures c.put.ensures, inv.1, c.put.auto.l ∙ inv.2)
 
 pub returns : goal.returns
 returns c = lay_end _ _ 0 _ _ _ _ c.loop-i-test.false c.loop-i.invariant.0

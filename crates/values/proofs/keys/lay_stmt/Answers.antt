@@ -12,7 +12,7 @@ item_key-requires c = record { f_value = c.requires.f_value; i_bound = (c.requir
 
 pub loop-j-preserved : goal.loop-j-preserved
 loop-j-preserved c = let inv = c.loop-j.invariant in
-    (inv.0 ∙ lay_turn _ _ 0 _ _ _ _ _ _ c.loop-j-test.true (omega arith) c.item_key.ensures c.put_u64.ensures, inv.1, c.put_u64.auto.l ∙ inv.2)
+    (inv.0 ∙ lay_turn _ _ 0 _ _ _ _ _ _ c.loop-j-test.true (omega arith) c.item_key.ensures c.put.ensures, inv.1, c.put.auto.l ∙ inv.2)
 
 pub returns : goal.returns
 returns c = lay_end _ _ 0 _ _ _ _ c.loop-j-test.false c.loop-j.invariant.0

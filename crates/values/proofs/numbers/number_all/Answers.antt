@@ -15,7 +15,7 @@ number-requires c = record { chained = c.loop-i.invariant.1; i_in_bounds = (omeg
 pub loop-i-preserved : goal.loop-i-preserved
 loop-i-preserved c = let inv = c.loop-i.invariant in
     let ks = c.args.keys.now in
-    (filled_on (λ j. number_of ks (at ks j)) c.loop-i.numbers _ _ _ inv.0 (omega arith) c.number.ensures.number c.put_u32.ensures, c.number.ensures.chained, c.put_u32.auto.l ∙ inv.2, c.number.auto.heads ∙ inv.3, c.number.auto.next ∙ inv.4)
+    (filled_on (λ j. number_of ks (at ks j)) c.loop-i.numbers _ _ _ inv.0 (omega arith) c.number.ensures.number c.put.ensures, c.number.ensures.chained, c.put.auto.l ∙ inv.2, c.number.auto.heads ∙ inv.3, c.number.auto.next ∙ inv.4)
 
 pub returns : goal.returns
 returns c = numbers_done c.args.keys.now _ _ (c.loop-i.invariant.2 ∙ c.requires.numbers_len.0) c.loop-i-test.false c.loop-i.invariant.0
