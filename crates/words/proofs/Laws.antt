@@ -1,23 +1,26 @@
--- What each return of the functions comes to, over plain lists: a number is the four bytes that stand at it, and a comparison goes on
--- with the rests of both texts while their first bytes are equal.
+-- What each return of the functions comes to, over plain lists: a number is the first four bytes of what is left, and the definition's
+-- tests of texts are those of the library.
 use mathlib.Core.Path.{◌≡◌, refl, sym, ap, ◌∙◌}
-use mathlib.Core.Bool.{Bool, true, false, ◌&&◌}
+use mathlib.Core.Bool.{Bool, true, false, ◌&&◌, ◌||◌}
 use mathlib.Core.List.{List, [], ◌∷◌}
-use Prim.Native.Nat.{ℕ, suc, ◌+◌, ◌*◌, ◌≤◌, ◌<◌}
+use Prim.Native.Nat.{ℕ, zero, suc, min, ◌+◌, ◌*◌, ◌≤◌, ◌<◌}
 use native.Mathlib.Decide.{dec_lt}
 use native.Mathlib.Numerals.{add-one}
 use native.Mathlib.Omega.{arith}
 use lib.Dec.{eqb}
-use lib.ListN.{length, drop, get_or, length-drop, drop_of_length-le}
+use lib.ListN.{length, take, drop, get_or, length-drop, drop_of_length-le}
 use lib.Seq.{drop-cons}
-use mir.Syntax.{w8}
+use mir.Syntax.{w8, w32}
 use mir.Val.{Fits}
-use borrow.Author.Tests.{eq-eqb, ne_eqb}
+use Rattle.std.proofs.Common.{get_or-drop}
+use Rattle.std.specs.Cmp.Lexicographic.{pointwise}
+use Rattle.std.specs.Int.{from_le_bytes}
+use Rattle.std.specs.List.{list_any, range_with_len}
 use Rattle.definition.specs.Words.{four, word, long}
 use Rattle.definition.specs.Texts.{same, begins, contains}
 
 -- ---- numbers
-four_short : (l : List ℕ) → length l < 4 → four l ≡ 0
+pub four_short : (l : List ℕ) → length l < 4 → four l ≡ 0
 unfolding four
 four_short [] h = refl
 four_short (a ∷ []) h = refl
@@ -29,47 +32,45 @@ pub word_out : (f : List ℕ) (i : ℕ) → length f < i + 4 → 0 ≡ word f i
 unfolding word
 word_out f i h = sym (four_short (drop i f) (omega (arith, length-drop i f)))
 
-pub word_in : (f : List ℕ) (i : ℕ) → i + 4 ≤ length f
-    → word f i ≡ get_or f i 0 + 256 * get_or f (i + 1) 0 + 65536 * get_or f (i + 2) 0 + 16777216 * get_or f (i + 3) 0
-unfolding word four
-word_in f i h =
-    let a : i < length f = omega arith in
-    let b : i + 1 < length f = omega arith in
-    let c : i + 2 < length f = omega arith in
-    let d : i + 3 < length f = omega arith in
-    let p : suc i ≡ i + 1 = omega arith in
-    let q : suc (i + 1) ≡ i + 2 = omega arith in
-    let r : suc (i + 2) ≡ i + 3 = omega arith in
-    ap four (drop-cons f i 0 a ∙ ap (λ (l : List ℕ). get_or f i 0 ∷ l)
-    (ap (λ (n : ℕ). drop n f) p ∙ drop-cons f (i + 1) 0 b ∙ ap (λ (l : List ℕ). get_or f (i + 1) 0 ∷ l)
-    (ap (λ (n : ℕ). drop n f) q ∙ drop-cons f (i + 2) 0 c ∙ ap (λ (l : List ℕ). get_or f (i + 2) 0 ∷ l)
-    (ap (λ (n : ℕ). drop n f) r ∙ drop-cons f (i + 3) 0 d))))
+-- the first four bytes of what is left
+pub four_read : (l : List ℕ) → 4 ≤ length l → four l ≡ from_le_bytes w32 (get_or l 0 0 ∷ get_or l 1 0 ∷ get_or l 2 0 ∷ get_or l 3 0 ∷ [])
+unfolding four
+four_read [] h = absurd (omega arith)
+four_read (a ∷ []) h = absurd (omega arith)
+four_read (a ∷ b ∷ []) h = absurd (omega arith)
+four_read (a ∷ b ∷ c ∷ []) h = absurd (omega arith)
+four_read (a ∷ b ∷ c ∷ d ∷ r) h = omega arith
 
 -- of bytes
 pub word_small : (f : List ℕ) → ((k : ℕ) → Fits w8 (get_or f k 0)) → (i : ℕ) → word f i < 4294967296
-word_small f bytes i = go (dec_lt (length f) (i + 4))
+unfolding word
+word_small f bytes i = go (dec_lt (length (drop i f)) 4)
   where
-    go : Dec (length f < i + 4) → word f i < 4294967296
-    go (yes h) = omega (arith, word_out f i h)
-    go (no h) = omega (arith, word_in f i (omega arith), bytes i, bytes (i + 1), bytes (i + 2), bytes (i + 3))
+    at : (k : ℕ) → Fits w8 (get_or (drop i f) k 0)
+    at k = rw (get_or-drop i f k 0) (bytes (i + k))
 
--- the four bytes that the code read
-pub word_read : (f : List ℕ) (i a b c d : ℕ) → i + 4 ≤ length f → a ≡ get_or f i 0 → b ≡ get_or f (i + 1) 0 → c ≡ get_or f (i + 2) 0 → d ≡ get_or f (i + 3) 0
-    → a + 256 * b + 65536 * c + 16777216 * d ≡ word f i
-word_read f i a b c d h p q r s = rw (p, q, r, s) (sym (word_in f i h))
+    go : Dec (length (drop i f) < 4) → four (drop i f) < 4294967296
+    go (yes h) = omega (arith, four_short (drop i f) h)
+    go (no h) = omega (arith, four_read (drop i f) (omega arith), at 0, at 1, at 2, at 3)
 
-pub long_out : (f : List ℕ) (i : ℕ) → length f < i + 4 → 0 ≡ long f i
+-- a place past every file, in place of one that is too large to be told
+pub long_read : (f : List ℕ) (i j a b : ℕ) → length f ≤ 18446744073709551615 → j ≡ min (i + 4) 18446744073709551615
+    → a ≡ word f i → b ≡ word f j → a + 4294967296 * b ≡ long f i
 unfolding long
-long_out f i h =
-    let p = word_out f i h in
-    let q = word_out f (i + 4) (omega arith) in
-    omega arith
-
-pub long_read : (f : List ℕ) (i a b : ℕ) → a ≡ word f i → b ≡ word f (i + 4) → a + 4294967296 * b ≡ long f i
-unfolding long
-long_read f i a b p q = rw (p, q)
+long_read f i j a b h e p q = go (dec_lt (i + 4) 18446744073709551615)
+  where
+    go : Dec (i + 4 < 18446744073709551615) → a + 4294967296 * b ≡ word f i + 4294967296 * word f (i + 4)
+    go (yes k) = let g : j ≡ i + 4 = omega arith in rw (p, q, g)
+    go (no k) = let g = word_out f j (omega arith) in let l = word_out f (i + 4) (omega arith) in omega arith
 
 -- ---- texts
+pub same_pointwise : (s t : List ℕ) → pointwise eqb s t ≡ same s t
+unfolding same
+same_pointwise [] [] = refl
+same_pointwise [] (b ∷ t) = refl
+same_pointwise (a ∷ s) [] = refl
+same_pointwise (a ∷ s) (b ∷ t) = ap (λ (x : Bool). eqb a b && x) (same_pointwise s t)
+
 pub same_length : (s t : List ℕ) → (length s ≡ length t → ⊥) → false ≡ same s t
 unfolding same
 same_length [] [] h = absurd (h refl)
@@ -81,20 +82,11 @@ same_length (a ∷ s) (b ∷ t) h = go (eqb a b) (same_length s t (λ e. h (ap s
     go true e = e
     go false e = refl
 
--- one byte further, where both have it; the end, where they differ
-pub same_turn : (s t : List ℕ) (i : ℕ) → i < length s → i < length t → get_or s i 0 ≡ get_or t i 0
-    → same (drop i s) (drop i t) ≡ same (drop (i + 1) s) (drop (i + 1) t)
-unfolding same
-same_turn s t i h k e =
-    rw (add-one, drop-cons s i 0 h, drop-cons t i 0 k, eq-eqb (get_or s i 0) (get_or t i 0) e)
-
-pub same_differ : (s t : List ℕ) (i : ℕ) → i < length s → i < length t → (get_or s i 0 ≡ get_or t i 0 → ⊥) → false ≡ same (drop i s) (drop i t)
-unfolding same
-same_differ s t i h k e = rw (drop-cons s i 0 h, drop-cons t i 0 k, ne_eqb (get_or s i 0) (get_or t i 0) e)
-
-pub same_end : (s t : List ℕ) (i : ℕ) → length s ≤ i → length t ≤ i → true ≡ same (drop i s) (drop i t)
-unfolding same
-same_end s t i h k = rw (drop_of_length-le s h, drop_of_length-le t k)
+pub begins_pointwise : (w s : List ℕ) → pointwise eqb w (take (length w) s) ≡ begins w s
+unfolding begins
+begins_pointwise [] s = refl
+begins_pointwise (a ∷ w) [] = refl
+begins_pointwise (a ∷ w) (b ∷ s) = ap (λ (x : Bool). eqb a b && x) (begins_pointwise w s)
 
 pub begins_short : (w s : List ℕ) → length s < length w → false ≡ begins w s
 unfolding begins
@@ -106,42 +98,25 @@ begins_short (a ∷ w) (b ∷ s) h = go (eqb a b) (begins_short w s (omega arith
     go true e = e
     go false e = refl
 
-pub begins_turn : (w s : List ℕ) (i k : ℕ) → k < length w → i + k < length s → get_or w k 0 ≡ get_or s (i + k) 0
-    → begins (drop k w) (drop (i + k) s) ≡ begins (drop (k + 1) w) (drop (i + (k + 1)) s)
-unfolding begins
-begins_turn w s i k h g e =
-    let p : i + (k + 1) ≡ suc (i + k) = omega arith in
-    rw (p, add-one, drop-cons w k 0 h, drop-cons s (i + k) 0 g, eq-eqb (get_or w k 0) (get_or s (i + k) 0) e)
+-- the empty text stands everywhere, and another one only before an end
+pub contains_empty : (w s : List ℕ) → length w ≡ 0 → contains w s ≡ true
+unfolding contains begins
+contains_empty [] [] h = refl
+contains_empty [] (b ∷ s) h = refl
+contains_empty (a ∷ w) s h = absurd (omega arith)
 
-pub begins_differ : (w s : List ℕ) (i k : ℕ) → k < length w → i + k < length s → (get_or w k 0 ≡ get_or s (i + k) 0 → ⊥)
-    → false ≡ begins (drop k w) (drop (i + k) s)
-unfolding begins
-begins_differ w s i k h g e = rw (drop-cons w k 0 h, drop-cons s (i + k) 0 g, ne_eqb (get_or w k 0) (get_or s (i + k) 0) e)
-
-pub begins_end : (w s : List ℕ) (k : ℕ) → length w ≤ k → true ≡ begins (drop k w) s
-unfolding begins
-begins_end w s k h = rw (drop_of_length-le w h)
-
--- behind the end of s only the empty text begins
-pub begins_past : (w s : List ℕ) (i : ℕ) → length s < i → eqb (length w) 0 ≡ begins w (drop i s)
-unfolding begins
-begins_past w s i h = let k : length s ≤ i = omega arith in rw (drop_of_length-le s k) (go w)
+contains_from : (w s : List ℕ) (a n : ℕ) → (length w ≡ 0 → ⊥) → length s ≡ a + n
+    → list_any (λ i. begins w (drop i s)) (range_with_len a n) ≡ contains w (drop a s)
+unfolding contains begins
+contains_from [] s a n h e = absurd (h refl)
+contains_from (b ∷ w) s a zero h e = let k : length s ≤ a = omega arith in rw (drop_of_length-le s k)
+contains_from (b ∷ w) s a (suc n) h e =
+    let k : a < length s = omega arith in
+    let q : length s ≡ a + 1 + n = omega arith in
+    ap (λ (x : Bool). begins (b ∷ w) (drop a s) || x) (contains_from (b ∷ w) s (a + 1) n h q) ∙ sym (contains_turn a k)
   where
-    go : (w : List ℕ) → eqb (length w) 0 ≡ begins w []
-    go [] = refl
-    go (a ∷ w) = ne_eqb (suc (length w)) 0 (λ e. omega arith)
+    contains_turn : (a : ℕ) → a < length s → contains (b ∷ w) (drop a s) ≡ (begins (b ∷ w) (drop a s) || contains (b ∷ w) (drop (a + 1) s))
+    contains_turn a k = rw (add-one, drop-cons s a 0 k)
 
-pub contains_hit : (w s : List ℕ) (i : ℕ) → i < length s → begins w (drop i s) ≡ true → true ≡ contains w (drop i s)
-unfolding contains
-contains_hit w s i h e = rw (drop-cons s i 0 h) (rw (← drop-cons s i 0 h, e))
-
-pub contains_turn : (w s : List ℕ) (i : ℕ) → i < length s → begins w (drop i s) ≡ false → contains w (drop i s) ≡ contains w (drop (i + 1) s)
-unfolding contains
-contains_turn w s i h e = rw (add-one, drop-cons s i 0 h) (rw (← drop-cons s i 0 h, e))
-
-pub contains_end : (w s : List ℕ) (i : ℕ) → length s ≤ i → begins w (drop i s) ≡ contains w (drop i s)
-unfolding contains
-contains_end w s i h = rw (drop_of_length-le s h)
-
-pub begins_start : (w s : List ℕ) (i : ℕ) → begins w (drop i s) ≡ begins (drop 0 w) (drop (i + 0) s)
-begins_start w s i = let p : i + 0 ≡ i = omega arith in rw p
+pub contains_listed : (w s : List ℕ) → (length w ≡ 0 → ⊥) → list_any (λ i. begins w (drop i s)) (range_with_len 0 (length s)) ≡ contains w s
+contains_listed w s h = contains_from w s 0 (length s) h (omega arith)

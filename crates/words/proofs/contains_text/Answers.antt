@@ -1,17 +1,20 @@
-use Rattle.words.proofs.Laws.{contains_hit, contains_turn, contains_end}
-use mathlib.Core.Path.{refl, sym, ◌∙◌}
+-- The empty text stands everywhere; another one stands where it begins at a place before the end.
+use Rattle.definition.specs.Texts.{begins}
+use Rattle.words.proofs.Laws.{contains_empty, contains_listed}
+use Rattle.std.proofs.Common.{rules}
+use Rattle.std.proofs.lemmas.Iterator.{YieldsList-from_range}
+use Rattle.std.proofs.lemmas.Iterator.Search.{any_from_yields_List}
+use borrow.Author.Tests.{tests}
+use mathlib.Core.Path.{sym, ◌∙◌}
+use lib.ListN.{length, drop}
 use native.Mathlib.Omega.{arith}
-use Prim.Native.Nat.{◌-◌}
 use Rattle.words.proofs.contains_text.Goals as goal
 
-pub loop-i-init : goal.loop-i-init
-loop-i-init c = (refl, omega arith)
+pub returns-then-is_empty : goal.returns-then-is_empty
+returns-then-is_empty c = c.if-is_empty.true ∙ sym (contains_empty c.args.w.now c.args.s.now (search (rules, tests)))
 
-pub returns-then-begins_at : goal.returns-then-begins_at
-returns-then-begins_at c = let inv = c.loop-i.invariant in contains_hit c.args.w.now c.args.s.now c.loop-i.i (omega arith) (sym c.begins_at.ensures ∙ c.if-begins_at.true) ∙ sym inv.0
-
-pub loop-i-preserved : goal.loop-i-preserved
-loop-i-preserved c = let inv = c.loop-i.invariant in (inv.0 ∙ contains_turn c.args.w.now c.args.s.now c.loop-i.i (omega arith) (sym c.begins_at.ensures ∙ c.if-begins_at.false), omega arith)
-
-pub returns : goal.returns
-returns c = let inv = c.loop-i.invariant in c.begins_at-2.ensures ∙ contains_end c.args.w.now c.args.s.now c.loop-i.i (omega arith) ∙ sym inv.0
+pub returns-else-is_empty : goal.returns-else-is_empty
+returns-else-is_empty c =
+    any_from_yields_List (λ i. begins c.args.w.now (drop i c.args.s.now)) _ _ _ c.any.ensures.ran
+    (YieldsList-from_range 0 (length c.args.s.now) (length c.args.s.now) (cc) (omega arith)) (λ x b q k. search (rules, tests))
+    ∙ contains_listed c.args.w.now c.args.s.now (search (rules, tests))

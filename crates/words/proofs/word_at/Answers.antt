@@ -1,13 +1,13 @@
--- Inside the file the four bytes are read; outside the answer is 0, as the definition has it.
-use Rattle.words.proofs.Laws.{word_out, word_read}
-use native.Mathlib.Omega.{arith}
+-- Four bytes that are left are the number; where fewer are left, it is 0.
+use Rattle.words.proofs.Laws.{four_short, four_read}
+use Rattle.definition.specs.Words.{word, four}
+use mathlib.Core.Path.{sym, ap, ◌∙◌}
 use Rattle.words.proofs.word_at.Goals as goal
 
-pub returns-then-n-lt4 : goal.returns-then-n-lt4
-returns-then-n-lt4 c = word_out c.args.f.now c.args.i (omega arith)
+pub returns-in_default : goal.returns-in_default
+unfolding word
+returns-in_default c = sym (ap four (sym c.rest.ensures) ∙ four_short c.rest.result.now c.in_default.len_below)
 
-pub returns-then-n-i : goal.returns-then-n-i
-returns-then-n-i c = word_out c.args.f.now c.args.i (omega arith)
-
-pub returns : goal.returns
-returns c = word_read c.args.f.now c.args.i _ _ _ _ (omega arith) c.wide.ensures.0 c.wide-2.ensures.0 c.wide-3.ensures.0 c.wide-4.ensures.0
+pub returns-in-len4-up : goal.returns-in-len4-up
+unfolding word
+returns-in-len4-up c = c.from_le_bytes.ensures ∙ sym (ap four (sym c.rest.ensures) ∙ four_read c.rest.result.now c.in-len4-up.len_at_least)
