@@ -118,7 +118,7 @@ all_listed p (suc n) =
 
 pub all_upto : {F : Type 0} {g : Mut F (ℕ × Unit {0}) Bool} {s : Range ℕ} {u : Range ℕ} {f : F} {r : Bool} (p : ℕ → Bool) (n : ℕ)
     → ((xs : List ℕ) × (o : Option ℕ) × (j : F) × YieldsThen nat_range_steps s xs o u × FoldsTo (λ p x q. Called g p (x, tt) true q) f xs j
-        × MatchOption o (r ≡ true) (λ x. (r ≡ false) × ((h : F) × Called g j (x, tt) false h)))
+    × MatchOption o (r ≡ true) (λ x. (r ≡ false) × ((h : F) × Called g j (x, tt) false h)))
     → s ≡ record { start = 0; end = n }
     → ((x : ℕ) (b : Bool) (q : F) → Called g f (x, tt) b q → (q ≡ f) × (b ≡ p x)) → r ≡ all_below n p
 all_upto {u = u} {f = f} {r = r} p n ran e h =

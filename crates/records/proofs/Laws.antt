@@ -19,10 +19,6 @@ pub place_at : (f : List ℕ) (s w i k o : ℕ) → o ≡ offset f s → o + 4 *
 unfolding place
 place_at f s w i k o e = rw e
 
--- what was read at a place, whatever reads it
-pub read_placed : (read : ℕ → ℕ) (p q r : ℕ) → p ≡ q → r ≡ read p → r ≡ read q
-read_placed read p q r e h = rw (← e) h
-
 pub marked_is : (f : List ℕ) (i m w : ℕ) → w ≡ stmt_word f i 2 → eqb (w / m % 2) 1 ≡ marked f i m
 unfolding marked
 marked_is f i m w marks = rw marks

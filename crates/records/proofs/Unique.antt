@@ -3,7 +3,6 @@ use mathlib.Core.Path.{◌≡◌, sym, ◌∙◌}
 use mathlib.Core.Bool.{Bool}
 use mathlib.Core.List.{List}
 use Prim.Native.Nat.{ℕ}
-use Rattle.definition.specs.Words.{word}
 use Rattle.definition.specs.Contents.{contents, text, offset, size, place, arg_at, block_word, phi_word, input_at, stmt_word, item_word, expr_word, name_word}
 use Rattle.definition.specs.Contents.{block_long, stmt_long, expr_long, name_long}
 use Rattle.definition.specs.Owners.{stmt_kind, stmt_field, expr_items, value_items, items, block_phis, block_stmts, phi_inputs}
@@ -30,9 +29,6 @@ module _ (f : List ℕ) (i r s : ℕ) where
 
   pub size_of : r ≡ size f i → s ≡ size f i → r ≡ s
   size_of p q = p ∙ sym q
-
-  pub field : (t w k : ℕ) → r ≡ word f (place f t w i k) → s ≡ word f (place f t w i k) → r ≡ s
-  field t w k p q = p ∙ sym q
 
   pub arg_at_lem : r ≡ arg_at f i → s ≡ arg_at f i → r ≡ s
   arg_at_lem p q = p ∙ sym q
@@ -93,6 +89,10 @@ module _ (f : List ℕ) (i r s : ℕ) where
 
   pub phi_inputs_lem : r ≡ phi_inputs f i → s ≡ phi_inputs f i → r ≡ s
   phi_inputs_lem p q = p ∙ sym q
+
+-- a number of a record, however it is read
+pub field : {A : Type 0} (at : List ℕ → ℕ → A) (f : List ℕ) (t w i k : ℕ) (r s : A) → r ≡ at f (place f t w i k) → s ≡ at f (place f t w i k) → r ≡ s
+field at f t w i k r s p q = p ∙ sym q
 
 module _ (f : List ℕ) (i : ℕ) (r s : Bool) where
   pub is_dead : r ≡ marked f i 1 → s ≡ marked f i 1 → r ≡ s

@@ -1,19 +1,15 @@
 -- The code's edition, read as the definition's.
-use Rattle.std.specs.Prelude.{cond, List, map, ℕ, ltb, get_or}
+use Rattle.std.specs.Prelude.{map, ℕ}
 use Rattle.definition.specs.Edition.{Section, Room as DRoom, Edition as DEdition}
-use Rattle.definition.specs.Lists.{range}
+use Rattle.definition.specs.Lists.{at, range}
 use Rattle.records.specs.declared.edition.Edition.{Edition}
 use Rattle.records.specs.declared.edition.Room.{Room}
 
--- number s of a table of ten, and 0 behind them
-unfoldable pub entry_at : List ℕ → ℕ → ℕ
-entry_at l s = cond (ltb s 10) (get_or l s 0) 0
-
 abbrev pub words_at : Edition → ℕ → ℕ
-words_at e s = entry_at e.words s
+words_at e s = at e.words s
 
 abbrev pub limit_at : Edition → ℕ → ℕ
-limit_at e s = entry_at e.limits s
+limit_at e s = at e.limits s
 
 abbrev pub section_at : Edition → ℕ → Section
 section_at e s = record { words = words_at e s; most = limit_at e s }

@@ -1,12 +1,12 @@
 // Where each section stands, how many records it has, and the words of its records.
-ghost use Rattle.std.specs.Prelude.{◌≡◌, ◌≤◌};
+ghost use Rattle.std.specs.Prelude.{◌≡◌, ◌≤◌, ℕ, List};
 ghost use Rattle.definition.specs.Words.{word, long};
 ghost use Rattle.definition.specs.Contents.{contents_word, offset, size, place, arg_at, block_word, phi_word, input_at, stmt_word, item_word, expr_word, name_word};
 ghost use Rattle.definition.specs.Contents.{block_long, stmt_long, expr_long, name_long};
 
 use words::{long_at, word_at};
 
-// The sections by their place in the contents.
+// The sections by their place in the contents: numbers, since an edition counts through them.
 pub const ARGS: u32 = 0;
 
 pub const BLOCKS: u32 = 1;
@@ -52,19 +52,36 @@ fn place_of(f: &[u8], s: u32, w: u32, i: u32, k: u32) -> usize
     offset_of(f, s) as usize + 4 * ((w as usize) * (i as usize) + k as usize)
 }
 
-// The 32-bit and the 64-bit number there.
-pub fn field(f: &[u8], s: u32, w: u32, i: u32, k: u32) -> u32
-    requires { w ≤ 16 }
-    ensures { result ≡ word f.now (place f.now s w i k) }
-{
-    word_at(f, place_of(f, s, w, i, k))
+// A number of a record, and how it is read at a byte.
+pub trait Number {
+    ghost at: { List ℕ → ℕ → Self };
+
+    fn read(f: &[u8], i: usize) -> Self
+        ensures { result ≡ at f.now i };
 }
 
-fn long_field(f: &[u8], s: u32, w: u32, i: u32, k: u32) -> u64
+impl Number for u32 {
+    ghost at = { word };
+
+    fn read(f: &[u8], i: usize) -> Self {
+        word_at(f, i)
+    }
+}
+
+impl Number for u64 {
+    ghost at = { long };
+
+    fn read(f: &[u8], i: usize) -> Self {
+        long_at(f, i)
+    }
+}
+
+// The number there.
+pub fn field<T: Number>(f: &[u8], s: u32, w: u32, i: u32, k: u32) -> T
     requires { w ≤ 16 }
-    ensures { result ≡ long f.now (place f.now s w i k) }
+    ensures { result ≡ T.at f.now (place f.now s w i k) }
 {
-    long_at(f, place_of(f, s, w, i, k))
+    T::read(f, place_of(f, s, w, i, k))
 }
 
 // Words of the records by section.
@@ -120,23 +137,23 @@ pub fn name_word(f: &[u8], i: u32, k: u32) -> u32
 pub fn block_long(f: &[u8], i: u32, k: u32) -> u64
     ensures { result ≡ block_long f.now i k }
 {
-    long_field(f, BLOCKS, 10, i, k)
+    field(f, BLOCKS, 10, i, k)
 }
 
 pub fn stmt_long(f: &[u8], i: u32, k: u32) -> u64
     ensures { result ≡ stmt_long f.now i k }
 {
-    long_field(f, STATEMENTS, 11, i, k)
+    field(f, STATEMENTS, 11, i, k)
 }
 
 pub fn expr_long(f: &[u8], i: u32, k: u32) -> u64
     ensures { result ≡ expr_long f.now i k }
 {
-    long_field(f, EXPRESSIONS, 5, i, k)
+    field(f, EXPRESSIONS, 5, i, k)
 }
 
 pub fn name_long(f: &[u8], i: u32, k: u32) -> u64
     ensures { result ≡ name_long f.now i k }
 {
-    long_field(f, NAMES, 4, i, k)
+    field(f, NAMES, 4, i, k)
 }

@@ -2,7 +2,9 @@
 ghost use Rattle.std.specs.Prelude.{◌≡◌};
 ghost use Rattle.definition.specs.Contents.{contents, text};
 ghost use Rattle.definition.specs.Edition.{edition1};
-ghost use Rattle.records.specs.Editions.{entry_at, words_at, limit_at, edition_of};
+ghost use Rattle.records.specs.Editions.{words_at, limit_at, edition_of};
+
+use slices::get;
 
 // Lines, tokens and bytes of text.
 #[derive(Clone, Copy)]
@@ -25,17 +27,6 @@ pub struct Edition {
     // What lowering may write, and what the caller lends.
     pub lowered: Room,
     pub lent: Room,
-}
-
-// Number s of a table of ten; behind them all is 0.
-fn entry_at(table: [u32; 10], s: u32) -> u32
-    ensures { result ≡ entry_at table s }
-{
-    if s < 10 {
-        let k = s as usize;
-        return table[k];
-    }
-    0
 }
 
 impl Edition {
@@ -66,31 +57,26 @@ impl Edition {
     pub fn contents(self) -> u64
         ensures { result ≡ contents (edition_of self) }
     {
-        16 + 8 * (self.sections as u64)
+        16 + 8 * u64::from(self.sections)
     }
 
     // The text's place among the sections.
     pub fn text(self) -> u32
         ensures { result ≡ text (edition_of self) }
     {
-        if self.sections == 0 {
-            return 0;
-        }
-        self.sections - 1
+        self.sections.saturating_sub(1)
     }
 
-    // The words of section s, and its most records.
+    // The words of section s, and its most records; 0 behind the tables.
     pub fn words_at(self, s: u32) -> u32
         ensures { result ≡ words_at self s }
     {
-        let table = self.words;
-        entry_at(table, s)
+        get(&self.words, s as usize)
     }
 
     pub fn limit_at(self, s: u32) -> u32
         ensures { result ≡ limit_at self s }
     {
-        let table = self.limits;
-        entry_at(table, s)
+        get(&self.limits, s as usize)
     }
 }

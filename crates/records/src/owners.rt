@@ -103,7 +103,7 @@ pub fn value_items(f: &[u8], i: u32) -> u32
 pub fn items_of(f: &[u8], i: u32) -> u64
     ensures { result ≡ items f.now i }
 {
-    expr_items(f, i) as u64 + value_items(f, i) as u64
+    u64::from(expr_items(f, i)) + u64::from(value_items(f, i))
 }
 
 pub fn block_phis(f: &[u8], i: u32) -> u32

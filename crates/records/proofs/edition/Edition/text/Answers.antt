@@ -1,10 +1,6 @@
 -- The text is the last section: one less than their count, which for no sections is 0, as the definition subtracts.
 use Rattle.records.proofs.Editions.{text_is}
-use native.Mathlib.Omega.{arith}
 use Rattle.records.proofs.edition.Edition.text.Goals as goal
 
-pub returns-then-self-eq0 : goal.returns-then-self-eq0
-returns-then-self-eq0 c = text_is _ _ (omega arith)
-
 pub returns : goal.returns
-returns c = text_is _ _ (omega arith)
+returns c = text_is _ _ c.saturating_sub.ensures
