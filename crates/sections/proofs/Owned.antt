@@ -1,25 +1,15 @@
--- What is owned: the sums over all owners are the sizes of what they own.
-use mathlib.Core.Path.{◌≡◌}
-use mathlib.Core.Bool.{Bool, ◌&&◌}
-use mathlib.Core.List.{List}
-use Prim.Native.Nat.{ℕ}
+-- What is owned: the sums over all owners are the sizes of what they own. Where sums only grow, one that has passed the whole never equals it.
+use mathlib.Core.Path.{◌≡◌, sym}
+use mathlib.Core.Bool.{false}
+use Prim.Native.Nat.{ℕ, ◌+◌, ◌<◌}
+use native.Mathlib.Omega.{arith}
 use lib.Dec.{eqb}
-use Rattle.definition.specs.Edition.{blocks, phis, inputs, statements, lists}
+use borrow.Author.Tests.{ne_eqb}
 use Rattle.definition.specs.Lists.{sum_below}
-use Rattle.definition.specs.Contents.{size}
-use Rattle.definition.specs.Owners.{first_phi, first_stmt, first_input, first_item}
-use Rattle.definition.specs.Shape.{owned}
-use Rattle.sections.specs.declared.layout.Parts.{Parts}
-use Rattle.sections.specs.declared.layout.Parts.TheVariants.{Phis, Stmts, Inputs, Items}
-use Rattle.sections.specs.Layout.{parts_of}
+use Rattle.records.proofs.Below.{sum_turn, sum_le}
 
-pub owned_is : (f : List ℕ) (b p i s l : ℕ) (w x y z : Bool) → b ≡ size f blocks → p ≡ size f phis → i ≡ size f inputs → s ≡ size f statements → l ≡ size f lists
-    → w ≡ eqb (sum_below b (parts_of f Phis)) p → x ≡ eqb (sum_below b (parts_of f Stmts)) s
-    → y ≡ eqb (sum_below p (parts_of f Inputs)) i → z ≡ eqb (sum_below s (parts_of f Items)) l
-    → (w && x && y && z) ≡ owned f
-unfolding owned parts_of first_phi first_stmt first_input first_item
-owned_is f b p i s l w x y z hb hp hi hs hl hw hx hy hz = rw (hw, hx, hy, hz, hb, hp, hi, hs, hl)
-
--- the parts by the variant that a match found
-pub parts_is : (f : List ℕ) (p q : Parts) (i r : ℕ) → p ≡ q → r ≡ parts_of f q i → r ≡ parts_of f p i
-parts_is f p q i r e h = rw e h
+-- what is left of the whole is less than the next owner takes
+pub passes : (g : ℕ → ℕ) (i n left part whole : ℕ) → i < n → left + sum_below i g ≡ whole → part ≡ g i → left < part → false ≡ eqb (sum_below n g) whole
+passes g i n left part whole h e p l =
+    let t : sum_below i g + part ≡ sum_below (i + 1) g = sum_turn g (sym (omega arith)) p in
+    sym (ne_eqb (sum_below n g) whole (λ q. omega (arith, sum_le g (i + 1) n (omega arith))))

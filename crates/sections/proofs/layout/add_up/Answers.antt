@@ -1,18 +1,19 @@
+use mathlib.Core.Path.{refl}
+use Prim.Native.Nat.{◌≤◌}
 use native.Mathlib.Omega.{arith}
-use Prim.Native.Nat.{ℕ, ◌-◌}
-use mathlib.Core.Path.{refl, ap}
-use lib.Dec.{eqb}
-use Rattle.records.proofs.Below.{sum_start, sum_turn, sum_over, sum_done}
+use Rattle.records.proofs.Below.{sum_start, sum_turn}
+use Rattle.sections.proofs.Owned.{passes}
 use Rattle.sections.proofs.layout.add_up.Goals as goal
 
 pub loop-i-init : goal.loop-i-init
-loop-i-init c = (sum_start _, omega arith, omega arith, refl)
+loop-i-init g c h says = omega (arith, sum_start h)
 
-pub returns-then-most-sum : goal.returns-then-most-sum
-returns-then-most-sum c = sum_over _ _ _ c.loop-i-test.true c.loop-i.invariant.0 c.parts_of-part.ensures (omega arith)
+pub returns-in_default : goal.returns-in_default
+returns-in_default g c h says =
+    passes h c.loop-i.i c.args.n c.loop-i.left c.part.result c.args.whole c.loop-i-test.true (c.loop-i.invariant h says) (says _ _ c.part.ensures)
+    (let less : c.part.result ≤ c.loop-i.left → ⊥ = c.in_default.ensures in omega arith)
 
 pub loop-i-preserved : goal.loop-i-preserved
-loop-i-preserved c = (sum_turn _ c.loop-i.invariant.0 c.parts_of-part.ensures, omega arith, omega arith, refl)
-
-pub returns : goal.returns
-returns c = ap (λ (s : ℕ). eqb s c.args.whole) (sum_done _ refl c.loop-i.invariant.0 (omega arith))
+loop-i-preserved g c h says =
+    let rest = c.in-Some.ensures in
+    omega (arith, c.loop-i.invariant h says, sum_turn h refl (says _ _ c.part.ensures))
