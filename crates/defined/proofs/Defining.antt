@@ -12,9 +12,8 @@ use Rattle.definition.specs.Contents.{size}
 use Rattle.definition.specs.Owners.{expr_items, value_items, first_item}
 use Rattle.definition.specs.Values.{Value, eqv}
 use Rattle.definition.specs.Meaning.{phi_value, assigned, call_returns, item_values, strict, loose, defined_once, value_at}
+use Rattle.std.specs.Prelude.{Option, Some, None}
 use Rattle.defined.specs.declared.value.Value.{Value as CValue}
-use Rattle.defined.specs.declared.value.Defined.{Defined}
-use Rattle.defined.specs.declared.value.Defined.TheVariants.{Nothing, One}
 use Rattle.defined.specs.Defined.{value_of, list_of, lone, item_value, first_value, hit, phi_hits, item_hits, stmt_hits, hits}
 use Rattle.definition.proofs.ListLaws.{count_append}
 use Rattle.defined.proofs.Ranges.{all_one, all_map, all_gather, count_map, count_gather}
@@ -29,20 +28,20 @@ pub hit_no : (v w : Value) (t : Bool) → t ≡ eqv v w → t ≡ false → 0 �
 unfolding hit
 hit_no v w t e h = rw (← e, h)
 
-pub count_none : (v : Value) (d : Defined) → d ≡ Nothing → 0 ≡ count (eqv v) (list_of d)
+pub count_none : (v : Value) (d : Option CValue) → d ≡ None → 0 ≡ count (eqv v) (list_of d)
 unfolding count
 count_none v d e = rw e
 
-pub count_hit : (v : Value) (d : Defined) (w : CValue) (n : ℕ) → d ≡ One w → n ≡ hit v (value_of w) → n ≡ count (eqv v) (list_of d)
+pub count_hit : (v : Value) (d : Option CValue) (w : CValue) (n : ℕ) → d ≡ Some w → n ≡ hit v (value_of w) → n ≡ count (eqv v) (list_of d)
 unfolding count hit
 count_hit v d w n e h = rw e h
 
 -- all of what an Assign defines
-pub none_lone : (f : List ℕ) (i : ℕ) (d : Defined) → list_of d ≡ assigned f i → d ≡ Nothing → true ≡ all (lone f) (assigned f i)
+pub none_lone : (f : List ℕ) (i : ℕ) (d : Option CValue) → list_of d ≡ assigned f i → d ≡ None → true ≡ all (lone f) (assigned f i)
 unfolding all
 none_lone f i d h e = sym (ap (all (lone f)) (sym h ∙ ap list_of e))
 
-pub one_lone : (f : List ℕ) (i : ℕ) (d : Defined) (v : CValue) (t : Bool) → list_of d ≡ assigned f i → d ≡ One v → t ≡ lone f (value_of v)
+pub one_lone : (f : List ℕ) (i : ℕ) (d : Option CValue) (v : CValue) (t : Bool) → list_of d ≡ assigned f i → d ≡ Some v → t ≡ lone f (value_of v)
     → t ≡ all (lone f) (assigned f i)
 one_lone f i d v t h e k = k ∙ sym (ap (all (lone f)) (sym h ∙ ap list_of e) ∙ all_one (lone f) (value_of v))
 

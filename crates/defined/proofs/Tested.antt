@@ -10,9 +10,8 @@ use Rattle.definition.specs.Owners.{expr_items, value_items, first_item}
 use Rattle.definition.specs.Values.{Value}
 use Rattle.definition.specs.Meaning.{phi_value, assigned, call_returns, item_values, strict, loose, value_at}
 use Rattle.defined.specs.Defined.{value_of, list_of, item_value, first_value}
+use Rattle.std.specs.Prelude.{Option, Some, None}
 use Rattle.defined.specs.declared.value.Value.{Value as CValue}
-use Rattle.defined.specs.declared.value.Defined.{Defined}
-use Rattle.defined.specs.declared.value.Defined.TheVariants.{Nothing, One}
 use Rattle.records.proofs.Also.{also, also_stop, also_go}
 use Rattle.defined.proofs.Ranges.{all_append, all_one, all_map, all_gather}
 
@@ -57,9 +56,9 @@ module _ (f : List ℕ) (p : Value → Bool) where
         ∙ sym (all_append p (call_returns f i) (item_values f i))
 
 -- what a statement defines by its own fields
-pub none_all : (p : Value → Bool) (d : Defined) → d ≡ Nothing → true ≡ all p (list_of d)
+pub none_all : (p : Value → Bool) (d : Option CValue) → d ≡ None → true ≡ all p (list_of d)
 unfolding all
 none_all p d e = rw e
 
-pub one_all : (p : Value → Bool) (d : Defined) (v : CValue) (t : Bool) → d ≡ One v → t ≡ p (value_of v) → t ≡ all p (list_of d)
+pub one_all : (p : Value → Bool) (d : Option CValue) (v : CValue) (t : Bool) → d ≡ Some v → t ≡ p (value_of v) → t ≡ all p (list_of d)
 one_all p d v t e h = rw e (h ∙ sym (all_one p (value_of v)))

@@ -1,5 +1,5 @@
--- The expressions that a record names: by its tag or kind, and as a loop over their numbers.
-use mathlib.Core.Path.{◌≡◌, refl, sym, ap, ◌∙◌}
+-- The expressions that a record names, and a loop over their numbers.
+use mathlib.Core.Path.{◌≡◌, refl, ap, ◌∙◌}
 use mathlib.Core.Bool.{Bool, true, false, cond}
 use mathlib.Core.List.{List, [], ◌∷◌, map}
 use Prim.Native.Nat.{ℕ, suc, ◌+◌, ◌-◌, ◌≤◌, ◌<◌}
@@ -15,28 +15,7 @@ use Rattle.definition.specs.References.{children, roots, item_exprs, children_lo
 use Rattle.definition.proofs.Runs.{loop_start}
 use Rattle.mentions.specs.Named.{child_count, child_at, root_count, root_at}
 
--- ---- children, by the tag that was read
-module _ (f : List ℕ) (i t : ℕ) (tag : t ≡ expr_word f i 0) where
-  abbrev pub count_by : ℕ → ℕ
-  count_by m = cond (eqb m 3) 2 (cond (eqb m 4) 1 (cond (eqb m 5) 1 0))
-
-  pub tag_count : (m : ℕ) → t ≡ m → count_by m ≡ child_count f i
-  unfolding child_count
-  tag_count m e = ap count_by (sym e ∙ tag)
-
-  pub no_count : (t ≡ 3 → ⊥) → (t ≡ 4 → ⊥) → (t ≡ 5 → ⊥) → 0 ≡ child_count f i
-  unfolding child_count
-  no_count a b c = rw (← tag, ne_eqb t 3 a, ne_eqb t 4 b, ne_eqb t 5 c)
-
-  pub load_child : (k n : ℕ) → t ≡ 5 → n ≡ expr_word f i 2 → n ≡ child_at f i k
-  unfolding child_at
-  load_child k n e h = rw (sym tag ∙ e) h
-
-  pub other_child : (k n : ℕ) → (t ≡ 5 → ⊥) → n ≡ expr_word f i (3 + k) → n ≡ child_at f i k
-  unfolding child_at
-  other_child k n e h = rw (← tag, ne_eqb t 5 e) h
-
--- two at most
+-- ---- children: two at most
 pub count_few : (f : List ℕ) (i : ℕ) → child_count f i ≤ 2
 unfolding child_count
 count_few f i = go (eqb (expr_word f i 0) 3) (eqb (expr_word f i 0) 4) (eqb (expr_word f i 0) 5)
@@ -59,41 +38,7 @@ children_are f i = go (expr_word f i 0) (expr_word f i) (ℕ_discrete (expr_word
     go t w (no a) (no b) (yes e) = rw e
     go t w (no a) (no b) (no c) = rw (ne_eqb t 3 a, ne_eqb t 4 b, ne_eqb t 5 c)
 
--- ---- roots, by the kind that was read
-module _ (f : List ℕ) (i k : ℕ) (kind : k ≡ stmt_kind f i) where
-  abbrev pub roots_by : ℕ → ℕ
-  roots_by m = cond (eqb m 1) 1 (cond (eqb m 2) 2 (cond (eqb m 5) 2 (cond (eqb m 6) (cond (eqb (stmt_field f i 0) 1) 1 0) (expr_items f i))))
-
-  pub kind_count : (m : ℕ) → k ≡ m → roots_by m ≡ root_count f i
-  unfolding root_count
-  kind_count m e = ap roots_by (sym e ∙ kind)
-
-  pub return_count : (v : ℕ) → k ≡ 6 → v ≡ stmt_field f i 0 → v ≡ 1 → 1 ≡ root_count f i
-  unfolding root_count
-  return_count v e p q = rw (sym kind ∙ e, sym p ∙ q)
-
-  pub return_none : (v : ℕ) → k ≡ 6 → v ≡ stmt_field f i 0 → (v ≡ 1 → ⊥) → 0 ≡ root_count f i
-  unfolding root_count
-  return_none v e p q = rw (sym kind ∙ e, ← p, ne_eqb v 1 q)
-
-  pub item_count : (n : ℕ) → (k ≡ 1 → ⊥) → (k ≡ 2 → ⊥) → (k ≡ 5 → ⊥) → (k ≡ 6 → ⊥) → n ≡ expr_items f i → n ≡ root_count f i
-  unfolding root_count
-  item_count n a b c d h = rw (← kind, ne_eqb k 1 a, ne_eqb k 2 b, ne_eqb k 5 c, ne_eqb k 6 d) h
-
-  module _ (first j n : ℕ) where
-    abbrev pub root_by : ℕ → ℕ
-    root_by m =
-        cond (eqb m 1) (stmt_field f i 2)
-        (cond (eqb m 2) (stmt_field f i (1 + j)) (cond (eqb m 5) (stmt_field f i (1 + j)) (cond (eqb m 6) (stmt_field f i 1) (item_word f (first + j) 0))))
-
-    pub kind_root : (m : ℕ) → k ≡ m → n ≡ root_by m → n ≡ root_at f i first j
-    unfolding root_at
-    kind_root m e h = h ∙ ap root_by (sym e ∙ kind)
-
-    pub item_root : (k ≡ 1 → ⊥) → (k ≡ 2 → ⊥) → (k ≡ 5 → ⊥) → (k ≡ 6 → ⊥) → n ≡ item_word f (first + j) 0 → n ≡ root_at f i first j
-    unfolding root_at
-    item_root a b c d h = rw (← kind, ne_eqb k 1 a, ne_eqb k 2 b, ne_eqb k 5 c, ne_eqb k 6 d) h
-
+-- ---- roots
 pub roots_are : (f : List ℕ) (i first : ℕ) → first ≡ first_item f i → roots f i ≡ map (root_at f i first) (range 0 (root_count f i))
 unfolding roots item_exprs root_at root_count range
 roots_are f i first p =
