@@ -13,10 +13,11 @@ use Rattle.definition.specs.Owners.{expr_items, value_items, first_item}
 use Rattle.definition.specs.Values.{Value, eqv}
 use Rattle.definition.specs.Meaning.{phi_value, assigned, call_returns, item_values, strict, loose, defined_once, value_at}
 use Rattle.std.specs.Prelude.{Option, Some, None}
+use Rattle.std.specs.Option.{MatchOption}
 use Rattle.defined.specs.declared.value.Value.{Value as CValue}
 use Rattle.defined.specs.Defined.{value_of, list_of, lone, item_value, first_value, hit, phi_hits, item_hits, stmt_hits, hits}
 use Rattle.definition.proofs.ListLaws.{count_append}
-use Rattle.defined.proofs.Ranges.{all_one, all_map, all_gather, count_map, count_gather}
+use Rattle.defined.proofs.Ranges.{all_map, all_gather, count_map, count_gather}
 use Rattle.records.proofs.Below.{sum_add, sum_same}
 
 -- ---- one value against another
@@ -28,22 +29,10 @@ pub hit_no : (v w : Value) (t : Bool) → t ≡ eqv v w → t ≡ false → 0 �
 unfolding hit
 hit_no v w t e h = rw (← e, h)
 
-pub count_none : (v : Value) (d : Option CValue) → d ≡ None → 0 ≡ count (eqv v) (list_of d)
-unfolding count
-count_none v d e = rw e
-
-pub count_hit : (v : Value) (d : Option CValue) (w : CValue) (n : ℕ) → d ≡ Some w → n ≡ hit v (value_of w) → n ≡ count (eqv v) (list_of d)
+pub defined_count : (v : Value) (d : Option CValue) {n : ℕ} {Q : CValue → Type 0} → MatchOption d (n ≡ 0) Q → ((w : CValue) → Q w → n ≡ hit v (value_of w)) → n ≡ count (eqv v) (list_of d)
 unfolding count hit
-count_hit v d w n e h = rw e h
-
--- all of what an Assign defines
-pub none_lone : (f : List ℕ) (i : ℕ) (d : Option CValue) → list_of d ≡ assigned f i → d ≡ None → true ≡ all (lone f) (assigned f i)
-unfolding all
-none_lone f i d h e = sym (ap (all (lone f)) (sym h ∙ ap list_of e))
-
-pub one_lone : (f : List ℕ) (i : ℕ) (d : Option CValue) (v : CValue) (t : Bool) → list_of d ≡ assigned f i → d ≡ Some v → t ≡ lone f (value_of v)
-    → t ≡ all (lone f) (assigned f i)
-one_lone f i d v t h e k = k ∙ sym (ap (all (lone f)) (sym h ∙ ap list_of e) ∙ all_one (lone f) (value_of v))
+defined_count v None h more = h
+defined_count v (Some w) h more = more w h
 
 -- ---- all places
 module _ (f : List ℕ) (v : Value) where

@@ -11,6 +11,7 @@ use Rattle.definition.specs.Values.{Value}
 use Rattle.definition.specs.Meaning.{phi_value, assigned, call_returns, item_values, strict, loose, value_at}
 use Rattle.defined.specs.Defined.{value_of, list_of, item_value, first_value}
 use Rattle.std.specs.Prelude.{Option, Some, None}
+use Rattle.std.specs.Option.{MatchOption}
 use Rattle.defined.specs.declared.value.Value.{Value as CValue}
 use Rattle.records.proofs.Also.{also, also_stop, also_go}
 use Rattle.defined.proofs.Ranges.{all_append, all_one, all_map, all_gather}
@@ -56,9 +57,7 @@ module _ (f : List ℕ) (p : Value → Bool) where
         ∙ sym (all_append p (call_returns f i) (item_values f i))
 
 -- what a statement defines by its own fields
-pub none_all : (p : Value → Bool) (d : Option CValue) → d ≡ None → true ≡ all p (list_of d)
+pub defined_all : (p : Value → Bool) (d : Option CValue) {r : Bool} {Q : CValue → Type 0} → MatchOption d (r ≡ true) Q → ((v : CValue) → Q v → r ≡ p (value_of v)) → r ≡ all p (list_of d)
 unfolding all
-none_all p d e = rw e
-
-pub one_all : (p : Value → Bool) (d : Option CValue) (v : CValue) (t : Bool) → d ≡ Some v → t ≡ p (value_of v) → t ≡ all p (list_of d)
-one_all p d v t e h = rw e (h ∙ sym (all_one p (value_of v)))
+defined_all p None h more = h
+defined_all p (Some v) h more = more v h ∙ sym (all_one p (value_of v))
