@@ -2,16 +2,15 @@
 use mathlib.Core.Path.{◌≡◌, refl, ap, ◌∙◌}
 use mathlib.Core.Bool.{Bool, true, false, cond}
 use mathlib.Core.List.{List, [], ◌∷◌, map}
-use Prim.Native.Nat.{ℕ, suc, ◌+◌, ◌-◌, ◌≤◌, ◌<◌}
+use Prim.Native.Nat.{ℕ, ◌+◌, ◌-◌, ◌≤◌}
 use native.Mathlib.Decide.{ℕ_discrete}
 use native.Mathlib.Omega.{arith}
-use lib.Dec.{eqb, ltb}
-use borrow.Author.Tests.{ne_eqb, lt-ltb, le-ltb}
-use Rattle.definition.specs.Edition.{expressions}
-use Rattle.definition.specs.Contents.{size, item_word, expr_word}
-use Rattle.definition.specs.Lists.{all, range}
+use lib.Dec.{eqb}
+use borrow.Author.Tests.{ne_eqb}
+use Rattle.definition.specs.Contents.{item_word, expr_word}
+use Rattle.definition.specs.Lists.{range}
 use Rattle.definition.specs.Owners.{stmt_kind, stmt_field, expr_items, first_item}
-use Rattle.definition.specs.References.{children, roots, item_exprs, children_lower, roots_inside}
+use Rattle.definition.specs.References.{children, roots, item_exprs}
 use Rattle.definition.proofs.Runs.{loop_start}
 use Rattle.mentions.specs.Named.{child_count, child_at, root_count, root_at}
 
@@ -58,35 +57,6 @@ roots_are f i first p =
     go false false false true false = refl
     go false false false false e = refl
 
--- ---- every name below b, from the k-th on
-unfoldable pub names_below : (ℕ → ℕ) → ℕ → ℕ → ℕ → Bool
-names_below g b k m = all (λ (c : ℕ). ltb c b) (map g (range k m))
-
-module _ (g : ℕ → ℕ) (b n k x : ℕ) (here : k < n) (read : x ≡ g k) where
-  left_more : n - k ≡ suc (n - (k + 1))
-  left_more = omega arith
-
-  pub below_turn : x < b → names_below g b k (n - k) ≡ names_below g b (k + 1) (n - (k + 1))
-  unfolding names_below all range
-  below_turn h = rw (left_more, ← read, lt-ltb x b h)
-
-  pub below_fail : b ≤ x → false ≡ names_below g b k (n - k)
-  unfolding names_below all range
-  below_fail h = rw (left_more, ← read, le-ltb x b h)
-
-pub below_end : (g : ℕ → ℕ) (b n k : ℕ) → n ≤ k → true ≡ names_below g b k (n - k)
-unfolding names_below all range
-below_end g b n k h = let s : n - k ≡ 0 = omega arith in rw s
-
 -- what is made of all names is made of those from the first on
 pub names_start {ℓ} : {B : Type ℓ} (h : List ℕ → B) (g : ℕ → ℕ) {n m : ℕ} {xs : List ℕ} → xs ≡ map g (range 0 m) → n ≡ m → h xs ≡ h (map g (range 0 (n - 0)))
 names_start h g {n} {m} p e = ap h p ∙ loop_start (λ (k : ℕ). h (map g (range 0 k))) n m e
-
-pub lower_start : (f : List ℕ) (i n : ℕ) → n ≡ child_count f i → children_lower f i ≡ names_below (child_at f i) i 0 (n - 0)
-unfolding children_lower names_below
-lower_start f i n e = names_start (all (λ (c : ℕ). ltb c i)) (child_at f i) (children_are f i) e
-
-pub inside_start : (f : List ℕ) (i first b n : ℕ) → first ≡ first_item f i → b ≡ size f expressions → n ≡ root_count f i
-    → roots_inside f i ≡ names_below (root_at f i first) b 0 (n - 0)
-unfolding roots_inside names_below
-inside_start f i first b n p q e = rw q (names_start (all (λ (c : ℕ). ltb c (size f expressions))) (root_at f i first) (roots_are f i first p) e)
