@@ -1,8 +1,8 @@
 -- How often a value is defined: the sums over places are the definition's count.
 use mathlib.Core.Path.{◌≡◌, refl, sym, ap, ap₂, ◌∙◌}
-use mathlib.Core.Bool.{Bool, true, false}
+use mathlib.Core.Bool.{Bool, true, false, cond, not, ◌&&◌}
 use mathlib.Core.List.{List, ◌++◌, map}
-use Prim.Native.Nat.{ℕ, ◌+◌}
+use Prim.Native.Nat.{ℕ, ◌+◌, ◌≤◌}
 use native.Mathlib.Omega.{arith}
 use lib.Dec.{eqb}
 use borrow.Author.Tests.{eq-eqb, ne_eqb}
@@ -33,6 +33,15 @@ pub defined_count : (v : Value) (d : Option CValue) {n : ℕ} {Q : CValue → Ty
 unfolding count hit
 defined_count v None h more = h
 defined_count v (Some w) h more = more w h
+
+pub defined_few : (v : Value) (d : Option CValue) → count (eqv v) (list_of d) ≤ 1
+unfolding count
+defined_few v None = omega arith
+defined_few v (Some w) = go (eqv v (value_of w))
+  where
+    go : (t : Bool) → cond t 1 0 ≤ 1
+    go true = omega arith
+    go false = omega arith
 
 -- ---- all places
 module _ (f : List ℕ) (v : Value) where
@@ -80,15 +89,9 @@ module _ (f : List ℕ) (v : Value) where
       let w : k ≡ item_hits f v (first_item f i + expr_items f i) (value_items f i) = u ∙ ap₂ (item_hits f v) (ap₂ (λ (m n : ℕ). m + n) p q) r in
       omega arith
 
-  pub lone_zero : v.ver ≡ 0 → false ≡ lone f v
-  unfolding lone
-  lone_zero h = rw (eq-eqb v.ver 0 h)
-
-  pub lone_count : (t : Bool) (p s : ℕ) → (v.ver ≡ 0 → ⊥) → p ≡ phi_hits f v (size f phis) → s ≡ sum_below (size f statements) (stmt_hits f v)
-      → t ≡ eqb (p + s) 1 → t ≡ lone f v
+  pub lone_is : lone f v ≡ (not (eqb v.ver 0) && eqb (phi_hits f v (size f phis) + sum_below (size f statements) (stmt_hits f v)) 1)
   unfolding lone hits
-  lone_count t p s h a b e =
-      rw (ne_eqb v.ver 0 h) (e ∙ ap (λ (n : ℕ). eqb n 1) (ap₂ (λ (m n : ℕ). m + n) a b ∙ sym hits_are))
+  lone_is = ap (λ (n : ℕ). not (eqb v.ver 0) && eqb n 1) hits_are
 
 module _ (f : List ℕ) where
   abbrev pub phi_lone : ℕ → Bool
