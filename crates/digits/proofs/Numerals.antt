@@ -10,10 +10,10 @@ use lib.Dec.{ltb, lit≤}
 use lib.ListN.{length, drop, set, length-append, length-set}
 use lib.Seq.{drop-cons, get_or-set_same, drop-set-lt, append_snoc}
 use Rattle.definition.specs.Numbers.{digit, digits}
-use Rattle.leaf.specs.declared.Wrote.TheVariants.{Bytes, NoRoom}
+use Rattle.std.specs.Prelude.{Ok}
 use Rattle.digits.specs.declared.Radix.{Radix}
 use Rattle.digits.specs.declared.Radix.TheVariants.{Decimal, Lower, Upper}
-use Rattle.leaf.specs.Leaf.{Leaf}
+use Rattle.leaf.specs.Leaf.{Leaf, no_room}
 use Rattle.digits.specs.Numeral.{base_of, ten_of, most_of, numeral, filled}
 use Rattle.leaf.proofs.Leaves.{leaf_short, leaf_fits}
 
@@ -147,10 +147,10 @@ module _ (b ten : ℕ) where
 
 -- the returns of `digits`
 module _ (x : Radix) (v n : ℕ) (d : List ℕ) (size : n ≡ length (numeral x v)) where
-  pub digits_short : length d < n → Leaf (numeral x v) d NoRoom d
+  pub digits_short : length d < n → Leaf (numeral x v) d no_room d
   digits_short h = leaf_short (numeral x v) d (omega arith)
 
-  pub digits_fit : (e : List ℕ) → n ≤ length d → e ≡ filled (base_of x) (ten_of x) n v d → Leaf (numeral x v) d (Bytes n) e
+  pub digits_fit : (e : List ℕ) → n ≤ length d → e ≡ filled (base_of x) (ten_of x) n v d → Leaf (numeral x v) d (Ok n) e
   unfolding numeral
   digits_fit e h p =
       leaf_fits (numeral x v) d n e size h (p ∙ rw size (fill_is (base_of x) (ten_of x) (most_of x) v d (omega arith)))

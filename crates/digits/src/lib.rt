@@ -7,38 +7,36 @@ ghost use Rattle.definition.specs.Render.{pointer as pointer_of};
 ghost use Rattle.leaf.specs.Leaf.{Leaf};
 ghost use Rattle.digits.specs.Numeral.{base_of, ten_of, numeral, filled};
 
-use leaf::{Wrote, copy};
+use leaf::{NoRoom, Wrote, copy};
 
-// 2^63, and the last number of 64 bits.
+// 2^63.
 pub const HALF: u64 = 0x8000_0000_0000_0000;
 
-pub const LAST: u64 = 0xFFFF_FFFF_FFFF_FFFF;
-
 // How digits are written: the base, and the letters above 9.
-#[derive(Clone, Copy)]
+#[derive(Clone, Copy, PartialEq, Eq)]
 pub enum Radix {
     Decimal,
     Lower,
     Upper,
 }
 
+#[tactic(auto, unfolding(crate::specs::Numeral::base_of))]
 fn base(x: Radix) -> u64
     ensures { (result ≡ base_of x) × (2 ≤ result) × (result ≤ 16) }
 {
     match x {
         Radix::Decimal => 10,
-        Radix::Lower => 16,
-        Radix::Upper => 16,
+        Radix::Lower | Radix::Upper => 16,
     }
 }
 
 // The letter for ten.
+#[tactic(auto, unfolding(crate::specs::Numeral::ten_of))]
 fn ten(x: Radix) -> u8
     ensures { (result ≡ ten_of x) × (result ≤ 97) }
 {
     match x {
-        Radix::Decimal => b'a',
-        Radix::Lower => b'a',
+        Radix::Decimal | Radix::Lower => b'a',
         Radix::Upper => b'A',
     }
 }
@@ -53,7 +51,7 @@ fn digit(x: Radix, d: u64) -> u8
     ten(x) + (d - 10) as u8
 }
 
-// How many digits v has.
+// How many digits v has. Divisions make the turns, so there is no count to go over.
 fn width(x: Radix, v: u64) -> usize
     ensures { (result ≡ length (numeral x v)) × (result ≤ 20) }
 {
@@ -73,10 +71,8 @@ fn fill(dst: &mut [u8], x: Radix, n: usize, v: u64)
     ensures { dst.new ≡ filled (base_of x) (ten_of x) n v dst.old }
 {
     let b = base(x);
-    let mut i = n;
     let mut r = v;
-    while 0 < i {
-        i -= 1;
+    for i in (0..n).rev() {
         dst[i] = digit(x, r % b);
         r = r / b;
     }
@@ -88,10 +84,10 @@ pub fn digits(dst: &mut [u8], x: Radix, v: u64) -> Wrote
 {
     let n = width(x, v);
     if dst.len() < n {
-        return Wrote::NoRoom;
+        return Err(NoRoom);
     }
     fill(dst, x, n, v);
-    Wrote::Bytes(n)
+    Ok(n)
 }
 
 // Writes v behind a front. The digits go first, so that a refusal touches nothing.
@@ -100,13 +96,11 @@ pub fn behind(dst: &mut [u8], front: &[u8], x: Radix, v: u64) -> Wrote
 {
     let n = front.len();
     if dst.len() < n {
-        return Wrote::NoRoom;
+        return Err(NoRoom);
     }
-    let Wrote::Bytes(m) = digits(&mut dst[n..], x, v) else {
-        return Wrote::NoRoom;
-    };
-    copy(dst, front);
-    Wrote::Bytes(n + m)
+    let m = digits(&mut dst[n..], x, v)?;
+    dst[..n].copy_from_slice(front);
+    Ok(n + m)
 }
 
 pub fn hex_upper(dst: &mut [u8], v: u64) -> Wrote
@@ -125,7 +119,7 @@ pub fn num(dst: &mut [u8], bits: u64) -> Wrote
         }
         return behind(dst, b"0x", Radix::Lower, bits);
     }
-    let m = LAST - bits + 1;
+    let m = bits.wrapping_neg();
     if m <= 9 {
         return behind(dst, b"-", Radix::Decimal, m);
     }
@@ -146,14 +140,12 @@ pub fn slot(dst: &mut [u8], s: u64) -> Wrote
 pub fn pointer(dst: &mut [u8], size: u32) -> Wrote
     ensures { Leaf (pointer_of size).text dst.old result dst.new }
 {
-    let v = 8 * (size as u64);
+    let v = 8 * u64::from(size);
     let n = 6 + width(Radix::Decimal, v);
     if dst.len() < n {
-        return Wrote::NoRoom;
+        return Err(NoRoom);
     }
-    let Wrote::Bytes(m) = copy(&mut dst[n..], b"_t *)") else {
-        return Wrote::NoRoom;
-    };
-    behind(dst, b"*(uint", Radix::Decimal, v);
-    Wrote::Bytes(n + m)
+    let m = copy(&mut dst[n..], b"_t *)")?;
+    behind(dst, b"*(uint", Radix::Decimal, v)?;
+    Ok(n + m)
 }

@@ -5,37 +5,28 @@
 ghost use Rattle.definition.specs.Words.{part};
 ghost use Rattle.leaf.specs.Leaf.{Leaf};
 
-#[derive(Clone, Copy)]
-pub enum Wrote {
-    Bytes(usize),
-    NoRoom,
-}
+#[derive(Clone, Copy, PartialEq, Eq)]
+pub struct NoRoom;
+
+// How many bytes were written.
+pub type Wrote = Result<usize, NoRoom>;
 
 // Writes the bytes of src.
 pub fn copy(dst: &mut [u8], src: &[u8]) -> Wrote
     ensures { Leaf src.now dst.old result dst.new }
 {
-    if dst.len() < src.len() {
-        return Wrote::NoRoom;
+    let n = src.len();
+    if dst.len() < n {
+        return Err(NoRoom);
     }
-    let mut i = 0;
-    while i < src.len() {
-        dst[i] = src[i];
-        i += 1;
-    }
-    Wrote::Bytes(i)
+    dst[..n].copy_from_slice(src);
+    Ok(n)
 }
 
 // Writes n bytes of f from `at` on, as far as f has them.
 pub fn copy_part(dst: &mut [u8], f: &[u8], at: usize, n: usize) -> Wrote
     ensures { Leaf (part f.now at n) dst.old result dst.new }
 {
-    if f.len() <= at {
-        return Wrote::Bytes(0);
-    }
-    if f.len() - at < n {
-        return copy(dst, &f[at..]);
-    }
-    let end = at + n;
-    copy(dst, &f[at..end])
+    let rest = &f[at.min(f.len())..];
+    copy(dst, &rest[..n.min(rest.len())])
 }

@@ -6,8 +6,7 @@ use Rattle.definition.specs.Numbers.{decimal}
 use Rattle.digits.specs.declared.Radix.TheVariants.{Decimal}
 use Rattle.digits.specs.Numeral.{numeral}
 use Rattle.digits.proofs.Texts.{numeral_is}
-use Rattle.leaf.specs.declared.Wrote.{Wrote}
-use Rattle.leaf.specs.Leaf.{Leaf}
+use Rattle.leaf.specs.Leaf.{Wrote, Leaf}
 use Rattle.leaf.proofs.Leaves.{leaf_as}
 
 pub spells : {A : Type 0} (g : A → List ℕ) (p q : A) (x d : List ℕ) (r : Wrote) (e : List ℕ) → p ≡ q → Leaf x d r e → x ≡ g q → Leaf (g p) d r e

@@ -10,9 +10,8 @@ use borrow.Rule.Slice.PartMut.{put_mid, mid_of, put_same}
 use lib.ListN.{length, take, drop}
 use lib.Seq.{drop-drop}
 use Rattle.definition.specs.Tokens.{tok}
-use Rattle.leaf.specs.declared.Wrote.{Wrote}
-use Rattle.leaf.specs.declared.Wrote.TheVariants.{Bytes, NoRoom}
-use Rattle.leaf.specs.Leaf.{Leaf}
+use Rattle.std.specs.Prelude.{Ok, Err}
+use Rattle.leaf.specs.Leaf.{Wrote, Leaf}
 use Rattle.leaf.proofs.Rest.{rest_is, rest_back, rest_length}
 use Rattle.leaf.proofs.Leaves.{leaf_none, leaf_bytes}
 use Rattle.room.specs.declared.out.Out.{Out}
@@ -42,9 +41,9 @@ module _ (ks t : List ℕ) (o : Out) (k : ℕ) where
           record { tokens = s.tokens; place = ready_place ks o k (length t) (sym is ∙ holds); end = go w wrote s }
         where
           go : (v : Wrote) → Leaf x (mid_of o.bytes (length t - o.bytes) t) v e → Sound (length ks) (length t) o → end_of o v ≤ text_most
-          go NoRoom l s = omega (arith, s.most, s.bytes)
-          go (Bytes n) l s =
-              omega (arith, s.most, s.bytes, rest_length t o.bytes, (leaf_bytes x (mid_of o.bytes (length t - o.bytes) t) e (Bytes n) n l refl).1)
+          go (Err y) l s = omega (arith, s.most, s.bytes)
+          go (Ok n) l s =
+              omega (arith, s.most, s.bytes, rest_length t o.bytes, (leaf_bytes x (mid_of o.bytes (length t - o.bytes) t) e (Ok n) n l refl).1)
 
       -- the law of every writer
       pub leaf_emit : (ks' : List ℕ) (r : Out) → (r ≡ after_token ks o k w) × (ks' ≡ with_token ks o k w)
@@ -57,14 +56,14 @@ module _ (ks t : List ℕ) (o : Out) (k : ℕ) where
 
           go : (v : Wrote) → Leaf x d v e
               → room_of (with_token ks o k v) (put_mid o.bytes (length t - o.bytes) t e) (after_token ks o k v) ≡ emit (room_of ks t o) (tok k x)
-          go NoRoom l =
-              let n = leaf_none x d e NoRoom l refl in
+          go (Err y) l =
+              let n = leaf_none x d e (Err y) l refl in
               let short : length t < o.bytes + length x = omega (arith, n.0, rest_length t o.bytes, ready_rest) in
               let same : put_mid o.bytes (length t - o.bytes) t e ≡ t =
               ap (put_mid o.bytes (length t - o.bytes) t) n.1 ∙ put_same o.bytes (length t - o.bytes) t in
               rw same (sym (emit_stops (room_of ks t o) (tok k x) (rw (← is, holds, lt-leb _ _ short))))
-          go (Bytes n) l =
-              let m = leaf_bytes x d e (Bytes n) n l refl in
+          go (Ok n) l =
+              let m = leaf_bytes x d e (Ok n) n l refl in
               let room : o.bytes + length x ≤ length t = omega (arith, m.0, m.1, rest_length t o.bytes, ready_rest) in
               let back : put_mid o.bytes (length t - o.bytes) t e ≡ take o.bytes t ++ (x ++ drop (o.bytes + length x) t) =
               rest_back t o.bytes e ∙ ap (λ (z : List ℕ). take o.bytes t ++ z)

@@ -3,7 +3,7 @@ ghost use Rattle.std.specs.Prelude.{◌++◌};
 ghost use Rattle.definition.specs.Words.{part};
 ghost use Rattle.leaf.specs.Leaf.{Leaf};
 
-use leaf::{Wrote, copy, copy_part};
+use leaf::{NoRoom, Wrote, copy_part};
 
 // Writes n bytes of f from `at` on behind a front. The part goes first, so that a refusal touches nothing.
 pub fn part_behind(dst: &mut [u8], front: &[u8], f: &[u8], at: usize, n: usize) -> Wrote
@@ -11,11 +11,9 @@ pub fn part_behind(dst: &mut [u8], front: &[u8], f: &[u8], at: usize, n: usize) 
 {
     let k = front.len();
     if dst.len() < k {
-        return Wrote::NoRoom;
+        return Err(NoRoom);
     }
-    let Wrote::Bytes(m) = copy_part(&mut dst[k..], f, at, n) else {
-        return Wrote::NoRoom;
-    };
-    copy(dst, front);
-    Wrote::Bytes(k + m)
+    let m = copy_part(&mut dst[k..], f, at, n)?;
+    dst[..k].copy_from_slice(front);
+    Ok(k + m)
 }

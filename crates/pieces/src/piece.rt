@@ -14,14 +14,14 @@ use text::names::{global_name, name_text};
 use text::registers::reg_name;
 
 // A register at a width.
-#[derive(Clone, Copy)]
+#[derive(Clone, Copy, PartialEq, Eq)]
 pub struct Named {
     pub bits: u32,
     pub reg: u32,
 }
 
 // A text that is made of a number.
-#[derive(Clone, Copy)]
+#[derive(Clone, Copy, PartialEq, Eq)]
 pub enum Made {
     // The constant with these bits.
     Num(u64),
@@ -40,21 +40,21 @@ pub enum Made {
 }
 
 // n bytes from `at` on.
-#[derive(Clone, Copy)]
+#[derive(Clone, Copy, PartialEq, Eq)]
 pub struct Bytes {
     pub at: usize,
     pub n: usize,
 }
 
 // A supplied name, whose text is in section t.
-#[derive(Clone, Copy)]
+#[derive(Clone, Copy, PartialEq, Eq)]
 pub struct Supplied {
     pub t: u32,
     pub i: u32,
 }
 
 // The global at c, of so many bytes; the names' texts are in section t.
-#[derive(Clone, Copy)]
+#[derive(Clone, Copy, PartialEq, Eq)]
 pub struct Global {
     pub t: u32,
     pub c: u64,
@@ -62,7 +62,7 @@ pub struct Global {
 }
 
 // A piece: made of a number, or out of bytes that are lent with it.
-#[derive(Clone, Copy)]
+#[derive(Clone, Copy, PartialEq, Eq)]
 pub enum Piece {
     Made(Made),
     Whole,

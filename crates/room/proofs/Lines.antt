@@ -1,29 +1,21 @@
 -- Lines: the five numbers of a line as one paste, and the returns of the function that ends a line.
-use mathlib.Core.Path.{◌≡◌, ◌∙◌}
-use mathlib.Core.Bool.{true, false}
+use mathlib.Core.Path.{◌≡◌, refl, ◌∙◌}
+use mathlib.Core.Bool.{Bool, true, false}
 use mathlib.Core.Option.{Option}
-use mathlib.Core.List.{List, [], ◌∷◌, append_assoc}
-use Prim.Native.Nat.{ℕ, suc, ◌+◌, ◌*◌, ◌≤◌, ◌<◌}
+use mathlib.Core.List.{List, [], ◌∷◌}
+use Prim.Native.Nat.{ℕ, ◌+◌, ◌-◌, ◌*◌, ◌≤◌, ◌<◌}
 use native.Mathlib.Omega.{arith}
 use borrow.Author.Tests.{le-leb, lt-leb}
-use lib.ListN.{length, take, drop, set}
-use lib.Seq.{sets-eq}
+use lib.ListN.{length}
+use lib.Seq.{drop-drop}
+use mir.Val.{bool_byte}
+use borrow.Rule.Slice.PartMut.{put_mid}
+use Rattle.std.specs.Prelude.{Option as Answer, Some, None}
+use Rattle.std.specs.Option.{is_some, unwrap_or}
 use Rattle.definition.specs.Listing.{has_address, address_of}
 use Rattle.room.specs.declared.out.Out.{Out}
-use Rattle.room.specs.Room.{stopped, is_full, paste, line_row, ended, end_line}
+use Rattle.room.specs.Room.{stopped, is_full, paste, line_row, ended, end_line, option_of}
 use Rattle.room.specs.Ending.{Ended}
-
--- the stores one by one
-pub row_is : (l : List ℕ) (i a b c d : ℕ) → i + 5 ≤ length l
-    → set (set (set (set (set l i a) (i + 1) b) (i + 2) c) (i + 3) d) (i + 4) 0 ≡ paste l i (a ∷ b ∷ c ∷ d ∷ 0 ∷ [])
-unfolding paste
-row_is l i a b c d h =
-    let p : i + 1 ≡ suc i = omega arith in
-    let q : i + 2 ≡ suc (suc i) = omega arith in
-    let r : i + 3 ≡ suc (suc (suc i)) = omega arith in
-    let s : i + 4 ≡ suc (suc (suc (suc i))) = omega arith in
-    let row = a ∷ b ∷ c ∷ d ∷ 0 ∷ [] in
-    rw (p, q, r, s) (sets-eq row l i h ∙ append_assoc (take i l) row (drop (i + 5) l))
 
 module _ (l : List ℕ) (o : Out) (n : ℕ) (a : Option ℕ) where
   -- full already
@@ -36,8 +28,27 @@ module _ (l : List ℕ) (o : Out) (n : ℕ) (a : Option ℕ) where
   unfolding end_line is_full
   end_stops r f h e = record { whole = λ ks t. rw (f, lt-leb _ _ h, e) }
 
-  pub end_fits : (l' : List ℕ) (has at' : ℕ) → o.full ≡ false → 5 * (o.lines + 1) ≤ length l
-      → has ≡ has_address a → at' ≡ address_of a → l' ≡ paste l (5 * o.lines) (has ∷ at' ∷ n ∷ o.tokens ∷ 0 ∷ [])
-      → Ended l o n a l' (record { lines = o.lines + 1; tokens = o.tokens; bytes = o.bytes; start = o.tokens; full = false })
-  unfolding end_line is_full line_row ended
-  end_fits l' has at' f h p q e = record { whole = λ ks t. rw (e, p, q, f, le-leb _ _ h) }
+-- the row's numbers, over those that stood in its place
+row_put : (l s x : List ℕ) (i k : ℕ) → x ≡ s → k ≡ length s → put_mid i k l x ≡ paste l i s
+unfolding paste
+row_put l s x i k e h = rw (e, h, drop-drop (length s) i l)
+
+has_is : (at : Answer ℕ) → bool_byte (is_some at) ≡ has_address (option_of at)
+has_is None = refl
+has_is (Some a) = refl
+
+address_is : (at : Answer ℕ) → unwrap_or at 0 ≡ address_of (option_of at)
+address_is None = refl
+address_is (Some a) = refl
+
+pub end_fits : (l : List ℕ) (o : Out) (n : ℕ) (at : Answer ℕ) (x : List ℕ) (b : Bool) (has y : ℕ) → o.full ≡ false → 5 * (o.lines + 1) ≤ length l
+    → b ≡ is_some at → has ≡ bool_byte b → y ≡ unwrap_or at 0 → x ≡ has ∷ y ∷ n ∷ o.tokens ∷ 0 ∷ []
+    → Ended l o n (option_of at) (put_mid (5 * o.lines) (5 * o.lines + 5 - 5 * o.lines) l x)
+    (record { lines = o.lines + 1; tokens = o.tokens; bytes = o.bytes; start = o.tokens; full = o.full })
+unfolding end_line is_full line_row ended
+end_fits l o n at x b has y f h p q r e =
+    let five : 5 * o.lines + 5 - 5 * o.lines ≡ 5 = omega arith in
+    let row = has_address (option_of at) ∷ address_of (option_of at) ∷ n ∷ o.tokens ∷ 0 ∷ [] in
+    let k : x ≡ row = e ∙ rw (q, p, r, has_is at, address_is at) in
+    let w : put_mid (5 * o.lines) (5 * o.lines + 5 - 5 * o.lines) l x ≡ paste l (5 * o.lines) row = row_put l row x _ _ k five in
+    record { whole = λ ks t. rw (w, f, le-leb _ _ h) }

@@ -4,12 +4,12 @@ use mathlib.Core.Bool.{Bool, true, false, not, ◌&&◌, ◌||◌}
 use mathlib.Core.List.{List}
 use Prim.Native.Nat.{ℕ, ◌+◌, ◌-◌, ◌*◌, ◌%◌, ◌≤◌, ◌<◌}
 use native.Mathlib.Omega.{arith}
-use borrow.Author.Tests.{ltb-true, leb-true, not-true, lt-ltb, le-ltb, le-leb, eq-eqb, ne_eqb}
+use borrow.Author.Tests.{ltb-true, leb-true, not-true, le-ltb, le-leb}
 use lib.Dec.{eqb, ltb, leb}
 use lib.ListN.{length, get_or, set}
-use Rattle.definition.proofs.Bools.{both_true, or_cases, is_false, by_test}
-use Rattle.leaf.specs.declared.Wrote.{Wrote}
-use Rattle.leaf.specs.declared.Wrote.TheVariants.{Bytes, NoRoom}
+use Rattle.definition.proofs.Bools.{both_true, or_cases, by_test}
+use Rattle.std.specs.Prelude.{Ok}
+use Rattle.leaf.specs.Leaf.{Wrote, no_room}
 use Rattle.room.specs.declared.out.Out.{Out}
 use Rattle.room.specs.Room.{text_most, stopped, sound, goes_on, slot_at, is_ready}
 use Rattle.room.specs.Placing.{with_token, after_token, end_of, Placeable}
@@ -47,20 +47,6 @@ module _ (l n : ℕ) (o : Out) where
   pub sound_holds : Sound l n o → sound l n o ≡ true
   sound_holds s = sym (sound_last s.free s.most s.bytes s.start) ∙ le-leb o.tokens l s.tokens
 
-  pub sound_not : (Sound l n o → ⊥) → false ≡ sound l n o
-  sound_not h = sym (is_false _ (λ e. h (sound_told e)))
-
-pub sound_full : (l n : ℕ) (o : Out) → o.full ≡ true → false ≡ sound l n o
-unfolding sound
-sound_full l n o h = rw h
-
--- ---- the kinds that join
-pub joins_punct : (k : ℕ) → k ≡ 6 → true ≡ (eqb k 6 || eqb k 0)
-joins_punct k h = rw (eq-eqb k 6 h)
-
-pub joins_else : (k : ℕ) → (k ≡ 6 → ⊥) → eqb k 0 ≡ (eqb k 6 || eqb k 0)
-joins_else k h = rw (ne_eqb k 6 h)
-
 module _ (ks : List ℕ) (o : Out) (k : ℕ) where
   -- ---- goes on with the token before it
   pub goes_told : goes_on ks o k ≡ true → o.start < o.tokens
@@ -73,15 +59,6 @@ module _ (ks : List ℕ) (o : Out) (k : ℕ) where
   unfolding goes_on
   goes_first h = rw (le-ltb o.start o.tokens h)
 
-  module _ (b : Bool) (some : o.start < o.tokens) (is : b ≡ (eqb k 6 || eqb k 0)) where
-    pub goes_alike : b ≡ true → eqb (get_or ks (o.tokens - 1) 0 % 8) k ≡ goes_on ks o k
-    unfolding goes_on
-    goes_alike h = rw (lt-ltb o.start o.tokens some, ← is, h)
-
-    pub goes_alone : b ≡ false → false ≡ goes_on ks o k
-    unfolding goes_on
-    goes_alone h = rw (lt-ltb o.start o.tokens some, ← is, h)
-
   -- ---- the token's place
   pub slot_before : (b : Bool) → b ≡ goes_on ks o k → b ≡ true → o.tokens - 1 ≡ slot_at ks o k
   unfolding slot_at
@@ -93,18 +70,6 @@ module _ (ks : List ℕ) (o : Out) (k : ℕ) where
 
   -- ---- the test before the text
   module _ (n : ℕ) where
-    pub ready_goes : (s g : Bool) → s ≡ sound (length ks) n o → s ≡ true → g ≡ goes_on ks o k → g ≡ true → true ≡ is_ready ks n o k
-    unfolding is_ready
-    ready_goes s g e h f j = rw (← e, h, ← f, j)
-
-    pub ready_new : (s g : Bool) → s ≡ sound (length ks) n o → s ≡ true → g ≡ goes_on ks o k → g ≡ false → ltb o.tokens (length ks) ≡ is_ready ks n o k
-    unfolding is_ready
-    ready_new s g e h f j = rw (← e, h, ← f, j)
-
-    pub ready_not : (s : Bool) → s ≡ sound (length ks) n o → s ≡ false → false ≡ is_ready ks n o k
-    unfolding is_ready
-    ready_not s e h = rw (← e, h)
-
     pub ready_sound : is_ready ks n o k ≡ true → Sound (length ks) n o
     unfolding is_ready
     ready_sound h = sound_told (length ks) n o (both_true (sound (length ks) n o) (goes_on ks o k || ltb o.tokens (length ks)) h).0
@@ -119,16 +84,16 @@ module _ (ks : List ℕ) (o : Out) (k : ℕ) where
         (both_true (sound (length ks) n o) (goes_on ks o k || ltb o.tokens (length ks)) h).1)
 
   -- ---- the token's number
-  pub token_end : (w : Wrote) (n : ℕ) → Placeable ks o k w → w ≡ Bytes n → o.bytes + n ≤ text_most
+  pub token_end : (w : Wrote) (n : ℕ) → Placeable ks o k w → w ≡ Ok n → o.bytes + n ≤ text_most
   unfolding end_of
   token_end w n p h = rw h at p.end
 
-  pub token_none : (r : Out) (w : Wrote) → r ≡ stopped o → w ≡ NoRoom → (r ≡ after_token ks o k w) × (ks ≡ with_token ks o k w)
+  pub token_none : (r : Out) (w : Wrote) → r ≡ stopped o → w ≡ no_room → (r ≡ after_token ks o k w) × (ks ≡ with_token ks o k w)
   unfolding after_token with_token
   token_none r w e h = rw h (e, refl)
 
-  pub token_set : (w : Wrote) (n i : ℕ) → w ≡ Bytes n → i ≡ slot_at ks o k
+  pub token_set : (w : Wrote) (n i x : ℕ) → w ≡ Ok n → i ≡ slot_at ks o k → x ≡ k
       → (◌≡◌ {A = Out} (record { lines = o.lines; tokens = i + 1; bytes = o.bytes + n; start = o.start; full = false }) (after_token ks o k w))
-      × (set ks i (8 * (o.bytes + n) + k) ≡ with_token ks o k w)
+      × (set ks i (8 * (o.bytes + n) + x) ≡ with_token ks o k w)
   unfolding after_token with_token
-  token_set w n i h e = rw (h, e) (refl, refl)
+  token_set w n i x h e q = rw (h, e, q) (refl, refl)

@@ -5,7 +5,7 @@ use mathlib.Core.Bool.{Bool}
 use mathlib.Core.Option.{Option}
 use mathlib.Core.List.{List, []}
 use Prim.Native.Nat.{ℕ}
-use Rattle.leaf.specs.declared.Wrote.{Wrote}
+use Rattle.leaf.specs.Leaf.{Wrote}
 use Rattle.room.specs.declared.out.Out.{Out}
 use Rattle.room.specs.Room.{Sheet, stopped, is_ready}
 use Rattle.room.specs.Placing.{with_token, after_token}

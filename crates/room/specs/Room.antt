@@ -4,8 +4,7 @@ use Rattle.std.proofs.Math.Option.{Option, none, some}
 use Rattle.definition.specs.Tokens.{Token, Line}
 use Rattle.definition.specs.Listing.{has_address, address_of, line_numbers}
 use Rattle.room.specs.declared.out.Out.{Out}
-use Rattle.room.specs.declared.out.At.{At}
-use Rattle.room.specs.declared.out.At.TheVariants.{Nowhere, Address}
+use Rattle.std.specs.Prelude.{Option as Answer, Some, None}
 
 -- tokens and text
 pub record Room : Type 0 where
@@ -81,10 +80,10 @@ emit_all r (p ∷ ps) = emit_all (emit r p) ps
 unfoldable pub seen : Room → Option Room
 seen r = cond (is_full r) none (some r)
 
--- the address that a line stands at
-abbrev pub option_of : At → Option ℕ
-option_of Nowhere = none
-option_of (Address a) = some a
+-- the address that a line stands at, as the rules have it
+abbrev pub option_of : Answer ℕ → Option ℕ
+option_of None = none
+option_of (Some a) = some a
 
 -- the five numbers of a line
 unfoldable pub line_row : Out → ℕ → Option ℕ → List ℕ

@@ -2,7 +2,7 @@
 ghost use Rattle.std.specs.Prelude.{◌≡◌};
 ghost use Rattle.room.specs.Blank.{fresh};
 
-#[derive(Clone, Copy)]
+#[derive(Clone, Copy, PartialEq, Eq)]
 pub struct Out {
     pub lines: usize,
     pub tokens: usize,
@@ -26,11 +26,4 @@ impl Out {
             full: false,
         }
     }
-}
-
-// What a line stands at.
-#[derive(Clone, Copy)]
-pub enum At {
-    Nowhere,
-    Address(u64),
 }

@@ -1,4 +1,3 @@
 pub mod Lookups
 pub mod Tables
-pub mod Prefixes
 pub mod Unique

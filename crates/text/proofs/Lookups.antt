@@ -1,15 +1,13 @@
 -- Looking up: the name for an address, by its index and by the definition; globals; a number among others.
-use mathlib.Core.Path.{◌≡◌, refl, sym, ap, ◌∙◌}
-use mathlib.Core.Bool.{Bool, true, false, cond}
+use mathlib.Core.Path.{◌≡◌, refl, sym, ap₂, ◌∙◌}
+use mathlib.Core.Bool.{Bool, true, false, cond, ◌||◌}
 use mathlib.Core.Option.{Option, none, some}
-use mathlib.Core.List.{List, ◌++◌, map}
-use Prim.Native.Nat.{ℕ, zero, suc, ◌+◌, ◌-◌, ◌≤◌, ◌<◌}
-use native.Mathlib.Numerals.{add-one}
+use mathlib.Core.List.{List, [], ◌∷◌, ◌++◌, map}
+use Prim.Native.Nat.{ℕ, zero, suc, ◌+◌}
+use native.Mathlib.Decide.{ℕ_discrete}
 use native.Mathlib.Omega.{arith}
-use borrow.Author.Tests.{le-leb, lt-leb, eq-eqb, ne_eqb}
-use lib.Dec.{eqb, ltb}
-use lib.ListN.{length, drop, get_or, drop_of_length-le}
-use lib.Seq.{drop-cons}
+use borrow.Author.Tests.{ne_eqb}
+use lib.Dec.{eqb}
 use Rattle.definition.specs.Edition.{Edition, names}
 use Rattle.definition.specs.Lists.{any, among, range}
 use Rattle.definition.specs.Words.{part}
@@ -17,41 +15,50 @@ use Rattle.definition.specs.Contents.{offset, text, text_at, size, name_word, na
 use Rattle.definition.specs.Read.{name_at}
 use Rattle.definition.specs.Numbers.{hex_upper}
 use Rattle.definition.specs.Lookup.{name_for, size_prefix, name_or, global_name}
-use Rattle.definition.proofs.Runs.{loop_start}
-use Rattle.text.specs.declared.names.Found.{Found}
-use Rattle.text.specs.declared.names.Found.TheVariants.{At, Nothing}
-use Rattle.text.specs.Supplied.{found, index_from, name_index, name_text, text_of, is_global, global_text}
+use denote.Param.Members.{Mut}
+use denote.Ref.{Bor}
+use Rattle.std.specs.Bool.{⊤}
+use Rattle.std.specs.Fn.{CalledAt}
+use Rattle.std.specs.Iterator.{YieldsThen}
+use Rattle.std.specs.List.{range_with_len, find, list_any, FoldsTo}
+use Rattle.std.specs.Option.{MatchOption, option_map}
+use Rattle.std.specs.declared.ops.Range.{Range}
+use Rattle.std.proofs.iter.Yields.{nat_range_steps}
+use Rattle.std.proofs.lemmas.Iterator.{YieldsList-from_range}
+use Rattle.std.proofs.lemmas.Iterator.Search.{find_from_yields_List}
+use Rattle.std.specs.Prelude.{Option as Answer, Some, None}
+use Rattle.std.proofs.Common.{rules}
+use Rattle.records.specs.Options.{answer_of}
+use Rattle.digits.specs.declared.Radix.TheVariants.{Upper}
+use Rattle.digits.specs.Numeral.{numeral}
+use Rattle.digits.proofs.Texts.{numeral_is}
+use Rattle.text.specs.Supplied.{index_from, name_index, name_text, text_of, is_global, global_text}
 
--- ---- the loop of `name_for`: n names in all, i passed
-pub index_start : (f : List ℕ) (a n : ℕ) → n ≡ size f names → name_index f a ≡ index_from f a 0 (n - 0)
+-- ---- a search `(0..n).find(..)`, whose closure computes the test of each number
+pub find_upto : {F : Type 0} {g : Mut F (Bor ℕ × Unit {0}) Bool} {s : Range ℕ} (u : Range ℕ) {f : F} {r : Answer ℕ} (p : ℕ → Bool) (n : ℕ)
+    → ((xs : List ℕ) × (j : F) × YieldsThen nat_range_steps s xs r u × FoldsTo (λ p x q. CalledAt g p x false q) f xs j
+    × MatchOption r ⊤ (λ x. (h : F) × CalledAt g j x true h))
+    → s ≡ record { start = 0; end = n }
+    → ((x : ℕ) (b : Bool) (q : F) → CalledAt g f x b q → (q ≡ f) × (b ≡ p x)) → r ≡ find p (range_with_len 0 n)
+find_upto u {f = f} {r = r} p n ran e h = itself r ∙ find_from_yields_List p u f r ran (YieldsList-from_range 0 n n e (omega arith)) h
+  where
+    itself : (r : Answer ℕ) → r ≡ option_map (λ x. x) r
+    itself None = refl
+    itself (Some x) = refl
+
+first_from : (f : List ℕ) (a i n : ℕ) → find (λ x. eqb (name_long f x 0) a) (range_with_len i n) ≡ answer_of (index_from f a i n)
+unfolding index_from
+first_from f a i zero = refl
+first_from f a i (suc n) = go (eqb (name_long f i 0) a) (first_from f a (i + 1) n)
+  where
+    go : (b : Bool) → find (λ x. eqb (name_long f x 0) a) (range_with_len (i + 1) n) ≡ answer_of (index_from f a (i + 1) n)
+        → cond b (Some i) (find (λ x. eqb (name_long f x 0) a) (range_with_len (i + 1) n)) ≡ answer_of (cond b (some i) (index_from f a (i + 1) n))
+    go true h = refl
+    go false h = h
+
+pub first_is : (f : List ℕ) (a n : ℕ) → n ≡ size f names → find (λ x. eqb (name_long f x 0) a) (range_with_len 0 n) ≡ answer_of (name_index f a)
 unfolding name_index
-index_start f a n = loop_start (index_from f a 0) n (size f names)
-
-from_here : (f : List ℕ) (a i k : ℕ) → name_long f i 0 ≡ a → index_from f a i (suc k) ≡ some i
-unfolding index_from
-from_here f a i k e = rw (eq-eqb (name_long f i 0) a e)
-
-from_next : (f : List ℕ) (a i k : ℕ) → (name_long f i 0 ≡ a → ⊥) → index_from f a i (suc k) ≡ index_from f a (i + 1) k
-unfolding index_from
-from_next f a i k e = rw (ne_eqb (name_long f i 0) a e)
-
-module _ (f : List ℕ) (a n i : ℕ) (so : name_index f a ≡ index_from f a i (n - i)) where
-  pub index_here : (x : ℕ) → i < n → x ≡ name_long f i 0 → x ≡ a → At i ≡ found (name_index f a)
-  unfolding found
-  index_here x h e q =
-      let k : n - i ≡ suc (n - (i + 1)) = omega arith in
-      sym (ap found (so ∙ ap (index_from f a i) k ∙ from_here f a i _ (sym e ∙ q)))
-
-  pub index_next : (x : ℕ) → i < n → x ≡ name_long f i 0 → (x ≡ a → ⊥) → name_index f a ≡ index_from f a (i + 1) (n - (i + 1))
-  index_next x h e q =
-      let k : n - i ≡ suc (n - (i + 1)) = omega arith in
-      so ∙ ap (index_from f a i) k ∙ from_next f a i _ (λ p. q (e ∙ p))
-
-  pub index_none : n ≤ i → Nothing ≡ found (name_index f a)
-  unfolding found index_from
-  index_none h =
-      let k : n - i ≡ 0 = omega arith in
-      sym (ap found (so ∙ ap (index_from f a i) k))
+first_is f a n e = rw e (first_from f a 0 (size f names))
 
 -- ---- the index is the definition's name
 text_at_from : (E : Edition) (f : List ℕ) (a i n : ℕ) → name_for (map (name_at E f) (range i n)) a ≡ text_of f (text E) (index_from f a i n)
@@ -81,51 +88,37 @@ pub global_is : (E : Edition) (f : List ℕ) (c n : ℕ)
 unfolding global_name is_global global_text
 global_is E f c n = rw (name_is E f c)
 
--- ---- globals
-pub global_low : (c : ℕ) → c < 4096 → false ≡ is_global c
-unfolding is_global
-global_low c h = rw (lt-leb 4096 c h)
+-- ---- what an answer says of the index that it stands for
+pub index_some : (o : Option ℕ) (i : ℕ) → answer_of o ≡ Some i → o ≡ some i
+index_some none i e = absurd (search rules)
+index_some (some j) i e = let q : j ≡ i = cc in rw q
 
-pub global_high : (c : ℕ) → 4096 ≤ c → ltb c 9223372036854775808 ≡ is_global c
-unfolding is_global
-global_high c h = rw (le-leb 4096 c h)
-
--- ---- a number among others
-pub among_here : (v : ℕ) (s : List ℕ) (i : ℕ) → i < length s → get_or s i 0 ≡ v → among v (drop i s) ≡ true
-unfolding among any
-among_here v s i h e = rw (drop-cons s i 0 h, eq-eqb v (get_or s i 0) (sym e))
-
-pub among_next : (v : ℕ) (s : List ℕ) (i : ℕ) → i < length s → (get_or s i 0 ≡ v → ⊥) → among v (drop i s) ≡ among v (drop (i + 1) s)
-unfolding among any
-among_next v s i h e = rw (add-one, drop-cons s i 0 h, ne_eqb v (get_or s i 0) (λ p. e (sym p)))
-
-pub among_end : (v : ℕ) (s : List ℕ) (i : ℕ) → length s ≤ i → among v (drop i s) ≡ false
-unfolding among any
-among_end v s i h = rw (drop_of_length-le s h)
-
--- ---- what an answer says of the option that it stands for, where there is a way back
-pub answers : {C : Type 0} (code : Option ℕ → C) (back : C → Option ℕ) → back (code none) ≡ none → ((i : ℕ) → back (code (some i)) ≡ some i)
-    → (o : Option ℕ) (c : C) → code o ≡ c → o ≡ back c
-answers code back p q none c h = sym p ∙ ap back h
-answers code back p q (some i) c h = sym (q i) ∙ ap back h
-
-abbrev index : Found → Option ℕ
-index Nothing = none
-index (At i) = some i
-
-pub found_is : (o : Option ℕ) (r : Found) → found o ≡ r → o ≡ index r
-unfolding found
-found_is = answers found index refl (λ i. refl)
+pub index_none : (o : Option ℕ) → answer_of o ≡ None → o ≡ none
+index_none none e = refl
+index_none (some j) e = absurd (search rules)
 
 -- ---- the returns of `global_name`, by what the lookup answered
-module _ (f : List ℕ) (t c n : ℕ) (r : Found) (look : r ≡ found (name_index f c)) where
-  pub global_unnamed : r ≡ Nothing → size_prefix n ++ hex_upper c ≡ global_text f t c n
+module _ (f : List ℕ) (t c n : ℕ) (r : Answer ℕ) (look : r ≡ answer_of (name_index f c)) where
+  pub global_unnamed : (x : List ℕ) → x ≡ size_prefix n → r ≡ None → x ++ numeral Upper c ≡ global_text f t c n
   unfolding global_text text_of name_or
-  global_unnamed e = rw (found_is (name_index f c) Nothing (sym look ∙ e))
+  global_unnamed x p e = rw (index_none (name_index f c) (sym look ∙ e), p, numeral_is Upper c)
 
-  pub global_named : (i : ℕ) → r ≡ At i → name_text f t i ≡ global_text f t c n
+  pub global_named : (i : ℕ) → r ≡ Some i → name_text f t i ≡ global_text f t c n
   unfolding global_text text_of name_or
-  global_named i e = rw (found_is (name_index f c) (At i) (sym look ∙ e))
+  global_named i e = rw (index_some (name_index f c) i (sym look ∙ e))
+
+-- ---- a number among others, as `contains` tests it
+same_place : (x y : ℕ) → eqb x y ≡ eqb y x
+same_place x y = go (ℕ_discrete x y)
+  where
+    go : Dec (x ≡ y) → eqb x y ≡ eqb y x
+    go (yes e) = rw e
+    go (no e) = ne_eqb x y e ∙ sym (ne_eqb y x (λ q. e (sym q)))
+
+pub among_is : (v : ℕ) (s : List ℕ) → list_any (λ y. eqb y v) s ≡ among v s
+unfolding among any
+among_is v [] = refl
+among_is v (x ∷ s) = ap₂ (λ (a b : Bool). a || b) (same_place x v) (among_is v s)
 
 -- the text of a name, by the words that were read
 pub name_part : (f : List ℕ) (t i a n : ℕ) → a ≡ name_word f i 2 → n ≡ name_word f i 3 → part f (offset f t + a) n ≡ name_text f t i

@@ -63,11 +63,15 @@ module _ (bits v : ℕ) where
       go (yes q) = rw (eq-eqb bits 32 q, le-ltb v 8 (h q))
       go (no q) = rw (ne_eqb bits 32 q)
 
-  pub name_two : (v ≡ 8) ⊎ (v ≡ 9) → part bytes64 (3 * v) 2 ≡ reg_name bits v
+  pub name_two : (v ≡ 8) ⊎ ((v ≡ 8 → ⊥) × (v ≡ 9)) → part bytes64 (3 * v) 2 ≡ reg_name bits v
   unfolding wide
   name_two (inl e) = by_64 2 (λ q. omega arith) (rw e)
-  name_two (inr e) = by_64 2 (λ q. omega arith) (rw e)
+  name_two (inr e) = by_64 2 (λ q. omega arith) (rw e.1)
 
-  pub name_other : ((bits ≡ 32) → 8 ≤ v) → (v ≡ 8 → ⊥) → (v ≡ 9 → ⊥) → part bytes64 (3 * v) 3 ≡ reg_name bits v
+  pub name_other : ((bits ≡ 32) × (8 ≤ v)) ⊎ (bits ≡ 32 → ⊥) → (v ≡ 8 → ⊥) → (v ≡ 9 → ⊥) → part bytes64 (3 * v) 3 ≡ reg_name bits v
   unfolding wide
-  name_other h p q = by_64 3 h (rw (ne_eqb v 8 p, ne_eqb v 9 q))
+  name_other h p q = by_64 3 (at_least h) (rw (ne_eqb v 8 p, ne_eqb v 9 q))
+    where
+      at_least : ((bits ≡ 32) × (8 ≤ v)) ⊎ (bits ≡ 32 → ⊥) → bits ≡ 32 → 8 ≤ v
+      at_least (inl k) e = k.1
+      at_least (inr k) e = absurd (k e)

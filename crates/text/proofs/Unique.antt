@@ -6,11 +6,12 @@ use mathlib.Core.List.{List}
 use Prim.Native.Nat.{ℕ}
 use Rattle.definition.specs.Registers.{callee_saved}
 use Rattle.definition.proofs.Unique.{equation}
-use Rattle.text.specs.declared.names.Found.{Found}
-use Rattle.text.specs.Supplied.{found, name_index, is_global}
+use Rattle.std.specs.Prelude.{Option}
+use Rattle.records.specs.Options.{answer_of}
+use Rattle.text.specs.Supplied.{name_index, is_global}
 
-pub name_for_lem : (f : List ℕ) (a : ℕ) (r s : Found) → r ≡ found (name_index f a) → s ≡ found (name_index f a) → r ≡ s
-name_for_lem f a = equation (found (name_index f a))
+pub name_for_lem : (f : List ℕ) (a : ℕ) (r s : Option ℕ) → r ≡ answer_of (name_index f a) → s ≡ answer_of (name_index f a) → r ≡ s
+name_for_lem f a = equation (answer_of (name_index f a))
 
 pub is_global_lem : (c : ℕ) (r s : Bool) → r ≡ is_global c → s ≡ is_global c → r ≡ s
 is_global_lem c = equation (is_global c)

@@ -7,13 +7,6 @@ use Rattle.definition.specs.Contents.{offset, size, name_word, name_long}
 use Rattle.definition.specs.Offsets.{half}
 use Rattle.definition.specs.Numbers.{hex_upper}
 use Rattle.definition.specs.Lookup.{size_prefix, name_or}
-use Rattle.text.specs.declared.names.Found.{Found}
-use Rattle.text.specs.declared.names.Found.TheVariants.{At, Nothing}
-
--- an index as the lookup answers it
-unfoldable pub found : Option ℕ → Found
-found none = Nothing
-found (some i) = At i
 
 -- the first of n names from i on that is for the address a
 unfoldable pub index_from : List ℕ → ℕ → ℕ → ℕ → Option ℕ

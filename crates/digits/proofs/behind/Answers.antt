@@ -10,14 +10,16 @@ use Rattle.digits.proofs.behind.Goals as goal
 pub returns-then-dst-n : goal.returns-then-dst-n
 returns-then-dst-n c = let a = c.args in no_front a.front.now (numeral a.x a.v) _ _ refl c.if-dst-n.true
 
-pub returns-in_default : goal.returns-in_default
-returns-in_default c = let a = c.args in no_end a.front.now (numeral a.x a.v) _ _ refl _ _ c.if-dst-n.false c.digits.ensures c.in_default.is
+pub returns-in_err-m : goal.returns-in_err-m
+returns-in_err-m c = let a = c.args in
+    no_end a.front.now (numeral a.x a.v) _ _ refl _ _ _ c.if-dst-n.false c.digits.ensures c.in_err-m.was c.from_residual.ensures.0
 
 pub overflow_add-result : goal.overflow_add-result
 overflow_add-result c = let a = c.args in
-    let k : length a.front.now + c.in-Bytes.m ≤ length a.dst.now =
-    end_count a.front.now (numeral a.x a.v) a.dst.now _ refl _ _ _ c.if-dst-n.false c.digits.ensures c.in-Bytes.is in
+    let k : length a.front.now + c.in_ok-m.m ≤ length a.dst.now =
+    end_count a.front.now (numeral a.x a.v) a.dst.now _ refl _ _ _ c.if-dst-n.false c.digits.ensures c.in_ok-m.was in
     omega arith
 
 pub returns : goal.returns
-returns c = let a = c.args in both_fit a.front.now (numeral a.x a.v) _ _ refl _ _ _ _ _ c.if-dst-n.false c.digits.ensures c.in-Bytes.is c.copy.ensures
+returns c = let a = c.args in
+    both_fit a.front.now (numeral a.x a.v) _ _ refl _ _ _ _ c.if-dst-n.false c.digits.ensures c.in_ok-m.was (rw c.copy_from_slice.ensures.after)

@@ -10,14 +10,16 @@ use Rattle.pieces.proofs.fronted.part_behind.Goals as goal
 pub returns-then-dst-k : goal.returns-then-dst-k
 returns-then-dst-k c = let a = c.args in no_front a.front.now (part a.f.now a.at a.n) _ _ refl c.if-dst-k.true
 
-pub returns-in_default : goal.returns-in_default
-returns-in_default c = let a = c.args in no_end a.front.now (part a.f.now a.at a.n) _ _ refl _ _ c.if-dst-k.false c.copy_part.ensures (cc)
+pub returns-in_err-m : goal.returns-in_err-m
+returns-in_err-m c = let a = c.args in
+    no_end a.front.now (part a.f.now a.at a.n) _ _ refl _ _ _ c.if-dst-k.false c.copy_part.ensures c.in_err-m.was c.from_residual.ensures.0
 
 pub overflow_add-result : goal.overflow_add-result
 overflow_add-result c = let a = c.args in
-    let k : length a.front.now + c.in-Bytes.m ≤ length a.dst.now =
-    end_count a.front.now (part a.f.now a.at a.n) a.dst.now _ refl _ _ _ c.if-dst-k.false c.copy_part.ensures (cc) in
+    let k : length a.front.now + c.in_ok-m.m ≤ length a.dst.now =
+    end_count a.front.now (part a.f.now a.at a.n) a.dst.now _ refl _ _ _ c.if-dst-k.false c.copy_part.ensures c.in_ok-m.was in
     omega arith
 
 pub returns : goal.returns
-returns c = let a = c.args in both_fit a.front.now (part a.f.now a.at a.n) _ _ refl _ _ _ _ _ c.if-dst-k.false c.copy_part.ensures (cc) c.copy.ensures
+returns c = let a = c.args in
+    both_fit a.front.now (part a.f.now a.at a.n) _ _ refl _ _ _ _ c.if-dst-k.false c.copy_part.ensures c.in_ok-m.was (rw c.copy_from_slice.ensures.after)

@@ -7,7 +7,7 @@ pub returns-then-out : goal.returns-then-out
 returns-then-out c = end_full _ _ _ _ c.if-out.true
 
 pub returns-then-n-lines : goal.returns-then-n-lines
-returns-then-n-lines c = end_fits _ _ _ _ _ _ _ c.if-out.false (omega arith) c.has_address.ensures c.address_of.ensures c.write_row.ensures
+returns-then-n-lines c = end_fits _ c.args.out _ _ _ _ _ _ c.if-out.false (omega arith) c.is_some.ensures c.from.ensures c.unwrap_or.ensures c.copy_from_slice.ensures.after
 
 pub returns : goal.returns
 returns c = end_stops _ _ _ _ _ c.if-out.false (omega arith) c.stop.ensures

@@ -1,15 +1,13 @@
-use Rattle.text.proofs.Lookups.{index_start, index_here, index_next, index_none}
-use Prim.Native.Nat.{◌-◌}
+-- The search tests the name of each number in turn, so what it finds is the first name's index.
+use lib.Dec.{eqb}
+use mathlib.Core.Path.{refl, ◌∙◌}
+use borrow.Author.Tests.{tests}
+use Rattle.std.proofs.Common.{rules}
+use Rattle.definition.specs.Contents.{name_long}
+use Rattle.text.proofs.Lookups.{find_upto, first_is}
 use Rattle.text.proofs.names.name_for.Goals as goal
 
-pub loop-i-init : goal.loop-i-init
-loop-i-init c = index_start _ _ _ c.size_of-n.ensures
-
-pub returns-then-name_long-a : goal.returns-then-name_long-a
-returns-then-name_long-a c = index_here _ _ _ _ c.loop-i.invariant _ c.loop-i-test.true c.name_long.ensures c.if-name_long-a.true
-
-pub loop-i-preserved : goal.loop-i-preserved
-loop-i-preserved c = index_next _ _ _ _ c.loop-i.invariant _ c.loop-i-test.true c.name_long.ensures c.if-name_long-a.false
-
 pub returns : goal.returns
-returns c = index_none _ _ _ _ c.loop-i.invariant c.loop-i-test.false
+returns c = let f = c.args.f.now in
+    find_upto _ (λ i. eqb (name_long f i 0) c.args.a) c.size_of.result c.find.ensures.ran refl (λ x b q k. search (rules, tests))
+    ∙ first_is f c.args.a _ c.size_of.ensures
