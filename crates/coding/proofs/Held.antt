@@ -18,7 +18,8 @@ use Rattle.outline.specs.Rows.{name_of, line_of, lines_of}
 use Rattle.outline.specs.Tests.{too_deep}
 use Rattle.outline.specs.Spans.{note_from, note_row, spans_of, outside, aimed_out, reached_in}
 use Rattle.outline.specs.Forming.{raised, deep_in}
-use Rattle.passes.specs.Sweeps.{Tried, tried}
+use Rattle.std.specs.Prelude.{Ok, Err}
+use Rattle.passes.specs.Sweeps.{too_deep as refusal, Tried, tried}
 use Rattle.coding.proofs.Coding.{CodedRow, Coded, deep_row}
 use Rattle.coding.proofs.Reaching.{note_length, any_lines, aimed_says, reached_says}
 use Rattle.coding.proofs.Scanning.{part, some_rows}
@@ -34,9 +35,9 @@ pub record Held (ls : List Line) (l : ℕ) (R S : List ℕ) (n : ℕ) : Type 0 w
 
 -- what a try on rows, and the try on their lines, come to: nothing, a region too deep, or the same region, with n' rows behind it
 pub data Step (ls : List Line) (l : ℕ) (R S : List ℕ) (n' : ℕ) (t : Tried) (r : Option Formed) : Type 0 where
-  no_region : t ≡ tried 0 R S → r ≡ none → Step ls l R S n' t r
-  too_deep_lem : t ≡ tried 2 R S → (o : Formed) → r ≡ some o → o.deep ≡ true → Step ls l R S n' t r
-  region : (Q T : List ℕ) → t ≡ tried 1 Q T → (o : Formed) → r ≡ some o → o.deep ≡ false → o.lines ≡ lines_of ls (take n' Q)
+  no_region : t ≡ tried (Ok false) R S → r ≡ none → Step ls l R S n' t r
+  too_deep_lem : t ≡ tried (Err refusal) R S → (o : Formed) → r ≡ some o → o.deep ≡ true → Step ls l R S n' t r
+  region : (Q T : List ℕ) → t ≡ tried (Ok true) Q T → (o : Formed) → r ≡ some o → o.deep ≡ false → o.lines ≡ lines_of ls (take n' Q)
       → Held ls l Q T n' → length Q ≡ length R → drop n' Q ≡ drop n' R → Step ls l R S n' t r
 
 pub note_all : (R : List ℕ) (f i : ℕ) (S : List ℕ) → length (note_from R i f S) ≡ length S

@@ -14,6 +14,8 @@ use Rattle.definition.specs.Lists.{any, at}
 use Rattle.definition.specs.Tokens.{Line}
 use Rattle.definition.specs.Passes.{Cut, cons_cut, scan_at, scan, Back, back_at, last_back, closer, named as named_line, backs as backs_line, stops as stops_line}
 use Rattle.definition.proofs.ListLaws.{each_head, each_tail}
+use Rattle.outline.specs.declared.rows.Seen.{Seen}
+use Rattle.outline.specs.declared.rows.Seen.TheVariants.{Pass, Hit, End}
 use Rattle.outline.specs.Rows.{indent_of, line_of}
 use Rattle.outline.specs.Tests.{labels, backs, stops, verdict, back_verdict, along, some_row}
 use Rattle.passes.specs.Regions.{onward, label_from, latest, back_from}
@@ -46,7 +48,7 @@ cut_on x X j r h true = refl
 cut_on x X j r h false = let e : r - j ≡ suc (r - suc j) = omega arith in sym (ap (λ (p : ℕ). cut_b false p (x ∷ X)) e)
 
 scan_turn : (x : Line) (X : List Line) (j n r : ℕ) → j < n → suc j ≤ r → (h s : Bool)
-    → scan_at h s x X (cut_b (eqb r n) (r - suc j) X) ≡ cut_b (eqb (onward (cond h 1 (cond s 2 0)) j n r) n) (onward (cond h 1 (cond s 2 0)) j n r - j) (x ∷ X)
+    → scan_at h s x X (cut_b (eqb r n) (r - suc j) X) ≡ cut_b (eqb (onward (cond h Hit (cond s End Pass)) j n r) n) (onward (cond h Hit (cond s End Pass)) j n r - j) (x ∷ X)
 unfolding scan_at onward
 scan_turn x X j n r l h true s = let e : j - j ≡ 0 = omega arith in sym (ap₂ (λ (b : Bool) (p : ℕ). cut_b b p (x ∷ X)) (ne_eqb j n (omega arith)) e)
 scan_turn x X j n r l h false true = sym (ap (λ (b : Bool). cut_b b (n - j) (x ∷ X)) (eq-eqb n n refl))
@@ -62,7 +64,7 @@ unfolding back_at
 back_past x X h j r w = let e : r - j ≡ suc (r - suc j) = omega arith in sym (ap (λ (p : ℕ). back_b false p (x ∷ X)) e)
 
 back_turn : (x : Line) (X : List Line) (j n r : ℕ) → j < n → suc j ≤ r → (s h : Bool)
-    → back_at s h x X (back_b (eqb r n) (r - suc j) X) ≡ back_b (eqb (latest (cond s 2 (cond h 1 0)) j n r) n) (latest (cond s 2 (cond h 1 0)) j n r - j) (x ∷ X)
+    → back_at s h x X (back_b (eqb r n) (r - suc j) X) ≡ back_b (eqb (latest (cond s End (cond h Hit Pass)) j n r) n) (latest (cond s End (cond h Hit Pass)) j n r - j) (x ∷ X)
 unfolding latest back_at
 back_turn x X j n r l w true h = sym (ap (λ (b : Bool). back_b b (n - j) (x ∷ X)) (eq-eqb n n refl))
 back_turn x X j n r l w false false = go (eqb r n)
@@ -81,8 +83,8 @@ module _ (ls : List Line) (l : ℕ) (R : List ℕ) (n : ℕ) (in_table : n ≤ l
   L w = line_of ls w
 
   -- a search that finds nothing in no lines, and at each row acts on what the row says
-  module _ {C : Type 0} (search : List Line → Option C) (out : Bool → ℕ → List Line → Option C) (act : ℕ → ℕ → ℕ → ℕ → ℕ) (says : ℕ → ℕ)
-      (one : (v i r : ℕ) → (act v i n r ≡ i) ⊎ ((act v i n r ≡ n) ⊎ (act v i n r ≡ r))) (nothing : (p : ℕ) → search [] ≡ out true p [])
+  module _ {C : Type 0} (search : List Line → Option C) (out : Bool → ℕ → List Line → Option C) (act : Seen → ℕ → ℕ → ℕ → ℕ) (says : ℕ → Seen)
+      (one : (v : Seen) (i r : ℕ) → (act v i n r ≡ i) ⊎ ((act v i n r ≡ n) ⊎ (act v i n r ≡ r))) (nothing : (p : ℕ) → search [] ≡ out true p [])
       (turn : (w : ℕ) → CodedRow ls l w → (X : List Line) (j r : ℕ) → j < n → suc j ≤ r → search X ≡ out (eqb r n) (r - suc j) X
       → search (L w ∷ X) ≡ out (eqb (act (says w) j n r) n) (act (says w) j n r - j) (L w ∷ X)) where
     abbrev from : ℕ → ℕ → ℕ

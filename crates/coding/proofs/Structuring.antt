@@ -18,9 +18,9 @@ use Rattle.records.proofs.Padded.{drop_zeros}
 use Rattle.outline.specs.Rows.{lines_of}
 use Rattle.outline.specs.Spans.{spans_of}
 use Rattle.passes.specs.declared.sweeps.Formed.{Formed}
-use Rattle.passes.specs.declared.sweeps.Passed.{Passed}
-use Rattle.passes.specs.declared.sweeps.Passed.TheVariants.{Done, TooDeep}
-use Rattle.passes.specs.Sweeps.{Swept, swept, done, if_tried, do_tried, keeps, if_rows, do_rows}
+use Rattle.std.specs.Prelude.{Result, Ok, Err}
+use Rattle.passes.specs.declared.sweeps.TooDeep.{TooDeep}
+use Rattle.passes.specs.Sweeps.{too_deep, more, Swept, swept, done, if_tried, do_tried, keeps, if_rows, do_rows}
 use Rattle.passes.specs.Dropping.{Gathered, gathered, kept_row, kept_rows, drop_rows}
 use Rattle.definition.proofs.ListLaws.{only_length}
 use Rattle.coding.proofs.Coding.{Coded}
@@ -46,7 +46,7 @@ module _ (ls : List Line) (S : List ℕ) (R : List ℕ) (n : ℕ) (A : Ready ls 
   unfolding if_rows
   if_ends =
       subst (Ends ls (length S) R n (if_rows R S n)) (sym (ifs_swept (lines_of ls (take n R)) A.good))
-      (pass_same ls (length S) if_tried ◌+◌ if_try (λ m. omega arith) (λ m. (omega arith, omega arith)) if_goes (if_step_lem ls (length S))
+      (pass_same ls (length S) if_tried more if_try (λ m. omega arith) (λ m. (omega arith, omega arith)) if_goes (if_step_lem ls (length S))
       R (spans_of (length S) R n) n begun A.good A.room)
 
   pub do_ends : Ends ls (length S) R n (do_rows R S n) (structure_do_while (lines_of ls (take n R)))
@@ -57,13 +57,13 @@ module _ (ls : List Line) (S : List ℕ) (R : List ℕ) (n : ℕ) (A : Ready ls 
       R (spans_of (length S) R n) n begun A.good A.room)
 
 -- ---- what a pass answered tells how it ended
-is_done : Passed → Bool
-is_done (Done f) = true
-is_done TooDeep = false
+is_done : Result Formed TooDeep → Bool
+is_done (Ok f) = true
+is_done (Err e) = false
 
-formed_in : Passed → Formed
-formed_in (Done f) = f
-formed_in TooDeep = record { rows = 0; regions = 0 }
+formed_in : Result Formed TooDeep → Formed
+formed_in (Ok f) = f
+formed_in (Err e) = record { rows = 0; regions = 0 }
 
 -- a pass that ended with the m rows of Q, and c regions
 pub record Over (ls : List Line) (l : ℕ) (R : List ℕ) (n : ℕ) (Q T : List ℕ) (m c : ℕ) (p : LinesPassed) : Type 0 where
@@ -87,7 +87,7 @@ module _ {ls : List Line} {l : ℕ} {R : List ℕ} {n : ℕ} where
       same_over (sym (ap (λ (x : Swept). x.rows) e)) (sym (ap (λ (x : Swept). x.spans) e)) (sym (ap (λ (x : Swept). (formed_in x.passed).rows) e))
       (sym (ap (λ (x : Swept). (formed_in x.passed).regions) e)) (record { lines = refl; held = H; good = G; room = w; long = q; more = k; behind = d })
 
-  pub ended_deep : (Q T : List ℕ) {z : Swept} {p : LinesPassed} → swept TooDeep Q T ≡ z → Ends ls l R n z p → p ≡ lines_deep
+  pub ended_deep : (Q T : List ℕ) {z : Swept} {p : LinesPassed} → swept (Err too_deep) Q T ≡ z → Ends ls l R n z p → p ≡ lines_deep
   unfolding is_done
   ended_deep Q T e (deeper q) = refl
   ended_deep Q T e (over H G w q k d) = absurd (false≢true (ap (λ (x : Swept). is_done x.passed) e))
@@ -118,8 +118,8 @@ pub record Finished (low : List Line) (R : List ℕ) (n : ℕ) (Z : List ℕ) (e
 
 -- what the answers of `structure_ifs`, `structure_do_while` and `drop_unused_labels` say of `structure`
 pub record Structured (low : List Line) (R S : List ℕ) (n : ℕ) : Type 0 where
-  pub ifs_deep : (Q T : List ℕ) → swept TooDeep Q T ≡ if_rows R S n → structure low ≡ refused 9
-  pub loops_deep : (Q T : List ℕ) (m c : ℕ) (Q' T' : List ℕ) → swept (done m c) Q T ≡ if_rows R S n → swept TooDeep Q' T' ≡ do_rows Q T m → structure low ≡ refused 9
+  pub ifs_deep : (Q T : List ℕ) → swept (Err too_deep) Q T ≡ if_rows R S n → structure low ≡ refused 9
+  pub loops_deep : (Q T : List ℕ) (m c : ℕ) (Q' T' : List ℕ) → swept (done m c) Q T ≡ if_rows R S n → swept (Err too_deep) Q' T' ≡ do_rows Q T m → structure low ≡ refused 9
   pub finished : (Q T : List ℕ) (m c : ℕ) (Q' T' : List ℕ) (m' c' : ℕ) (Z : List ℕ) (e : ℕ) → swept (done m c) Q T ≡ if_rows R S n
       → swept (done m' c') Q' T' ≡ do_rows Q T m → gathered e Z ≡ drop_rows Q' (length T') m' → Finished low R n Z e c c'
 
@@ -127,7 +127,7 @@ module _ (low : List Line) (R S : List ℕ) (n : ℕ) (A : Ready low (length S) 
   first : Ends low (length S) R n (if_rows R S n) (structure_ifs low)
   first = subst (λ (z : List Line). Ends low (length S) R n (if_rows R S n) (structure_ifs z)) is_low (if_ends low S R n A)
 
-  ifs_deeper : (Q T : List ℕ) → swept TooDeep Q T ≡ if_rows R S n → structure low ≡ refused 9
+  ifs_deeper : (Q T : List ℕ) → swept (Err too_deep) Q T ≡ if_rows R S n → structure low ≡ refused 9
   unfolding structure after_ifs
   ifs_deeper Q T e = ap after_ifs (ended_deep Q T e first)
 
@@ -153,7 +153,7 @@ module _ (low : List Line) (R S : List ℕ) (n : ℕ) (A : Ready low (length S) 
     unfolding structure after_ifs
     structure_is = ap after_ifs mid.lines
 
-    loops_deeper : (Q' T' : List ℕ) → swept TooDeep Q' T' ≡ do_rows Q T m → structure low ≡ refused 9
+    loops_deeper : (Q' T' : List ℕ) → swept (Err too_deep) Q' T' ≡ do_rows Q T m → structure low ≡ refused 9
     unfolding after_loops
     loops_deeper Q' T' e = structure_is ∙ ap (after_loops c) (ended_deep Q' T' e second)
 

@@ -3,8 +3,7 @@ use mathlib.Core.Path.{◌≡◌, sym, ◌∙◌}
 use mathlib.Core.Bool.{Bool}
 use mathlib.Core.List.{List}
 use Prim.Native.Nat.{ℕ}
-use lib.ListN.{length, take}
-use Rattle.passes.specs.Dropping.{kept_row, gathered, placed, gather_from, drop_rows}
+use Rattle.passes.specs.Dropping.{kept_row, gathered, gather_from, drop_rows}
 use Rattle.passes.proofs.Unique.{gathered_once}
 
 module _ (R : List ℕ) (r s : ℕ) (R₁ R₂ : List ℕ) where
@@ -13,12 +12,6 @@ module _ (R : List ℕ) (r s : ℕ) (R₁ R₂ : List ℕ) where
 
   pub gather : (S : List ℕ) (n m : ℕ) → gathered r R₁ ≡ gather_from (kept_row S n) R 0 m 0 → gathered s R₂ ≡ gather_from (kept_row S n) R 0 m 0 → (r ≡ s) × (R₁ ≡ R₂)
   gather S n m = gathered_once (gather_from (kept_row S n) R 0 m 0) r s R₁ R₂
-
-  pub place : (b : Bool) (c w : ℕ) → gathered r R₁ ≡ placed b R c w → gathered s R₂ ≡ placed b R c w → (r ≡ s) × (R₁ ≡ R₂)
-  place b c w = gathered_once (placed b R c w) r s R₁ R₂
-
-pub count_rows : (r s : ℕ) (R : List ℕ) (n : ℕ) → r ≡ length (take n R) → s ≡ length (take n R) → r ≡ s
-count_rows r s R n p q = p ∙ sym q
 
 pub is_kept : (r s : Bool) (S : List ℕ) (n w : ℕ) → r ≡ kept_row S n w → s ≡ kept_row S n w → r ≡ s
 is_kept r s S n w p q = p ∙ sym q

@@ -1,10 +1,20 @@
--- A loop over rows is `along` of the rows that are left: one turn takes the first of them, and at the end none is left.
-use mathlib.Core.Path.{◌≡◌, sym, ap, ap₂, ◌∙◌}
+-- A loop over rows is `along` of the rows that are left: one turn takes the first of them, and at the end none is left. A chain over them asks each in turn.
+use mathlib.Core.Path.{◌≡◌, refl, sym, ap, ap₂, ◌∙◌}
 use mathlib.Core.Bool.{Bool, true, false, ◌||◌}
 use mathlib.Core.List.{List}
-use Prim.Native.Nat.{ℕ, suc, ◌+◌, ◌-◌, ◌≤◌, ◌<◌}
+use Prim.Native.Nat.{ℕ, zero, suc, ◌+◌, ◌-◌, ◌≤◌, ◌<◌}
 use native.Mathlib.Omega.{arith}
 use native.Mathlib.Numerals.{add-one}
+use denote.Param.Members.{Mut}
+use Rattle.std.specs.Fn.{Called}
+use Rattle.std.specs.Iterator.{YieldsThen}
+use Rattle.std.specs.List.{range_with_len, list_any, FoldsTo}
+use Rattle.std.specs.Option.{MatchOption}
+use Rattle.std.specs.Prelude.{Option}
+use Rattle.std.specs.declared.ops.Range.{Range}
+use Rattle.std.proofs.iter.Yields.{nat_range_steps}
+use Rattle.std.proofs.lemmas.Iterator.{YieldsList-from_range}
+use Rattle.std.proofs.lemmas.Iterator.Search.{any_from_yields_List}
 use Rattle.definition.specs.Lists.{at}
 use Rattle.outline.specs.Tests.{along, some_row}
 
@@ -25,17 +35,16 @@ module _ {A : Type 0} (g : ℕ → ℕ → A → A) (z : A) (R : List ℕ) (j n 
   unfolding along
   along_end = left_end (along g z R j) j n
 
--- ---- a loop that asks a test of each row
-module _ (p : ℕ → Bool) (R : List ℕ) (j n : ℕ) where
-  pub some_none : n ≤ j → false ≡ some_row p R j (n - j)
-  unfolding some_row
-  some_none h = sym (along_end (λ i w r. p w || r) false R j n h)
+-- ---- a chain `(i..j).any(..)`, whose closure tests the row at each number
+some_listed : (p : ℕ → Bool) (R : List ℕ) (j f : ℕ) → list_any (λ k. p (at R k)) (range_with_len j f) ≡ some_row p R j f
+unfolding some_row along
+some_listed p R j zero = refl
+some_listed p R j (suc f) = ap (λ (b : Bool). p (at R j) || b) (some_listed p R (j + 1) f ∙ ap (λ (k : ℕ). some_row p R k f) (add-one j))
 
-  module _ (h : j < n) (w : ℕ) (e : w ≡ at R j) (b : Bool) (q : b ≡ p w) where
-    pub some_hit : b ≡ true → true ≡ some_row p R j (n - j)
-    unfolding some_row
-    some_hit t = sym (along_turn (λ i w r. p w || r) false R j n h w e ∙ ap (λ (c : Bool). c || some_row p R (j + 1) (n - (j + 1))) (sym q ∙ t))
-
-    pub some_on : b ≡ false → some_row p R j (n - j) ≡ some_row p R (j + 1) (n - (j + 1))
-    unfolding some_row
-    some_on t = along_turn (λ i w r. p w || r) false R j n h w e ∙ ap (λ (c : Bool). c || some_row p R (j + 1) (n - (j + 1))) (sym q ∙ t)
+pub some_range : {F : Type 0} {g : Mut F (ℕ × Unit {0}) Bool} {s u : Range ℕ} {f : F} {r : Bool} (p : ℕ → Bool) (R : List ℕ) (i j : ℕ)
+    → ((xs : List ℕ) × (o : Option ℕ) × (h : F) × YieldsThen nat_range_steps s xs o u × FoldsTo (λ p x q. Called g p (x, tt) false q) f xs h
+    × MatchOption o (r ≡ false) (λ x. (r ≡ true) × ((q : F) × Called g h (x, tt) true q)))
+    → s ≡ record { start = i; end = j }
+    → ((x : ℕ) (b : Bool) (q : F) → Called g f (x, tt) b q → (q ≡ f) × (b ≡ p (at R x))) → r ≡ some_row p R i (j - i)
+some_range {u = u} {f = f} {r = r} p R i j ran e h =
+    any_from_yields_List (λ k. p (at R k)) u f r ran (YieldsList-from_range i j (j - i) e refl) h ∙ some_listed p R i (j - i)

@@ -1,124 +1,54 @@
--- The loops that change rows in place and that move rows on, each as a function that recurs as the loop runs, and what it comes to.
+-- The changes of rows in place: a part changed row by row, a part cleared, and the rest one place on before a row is put in.
 use mathlib.Core.Path.{◌≡◌, refl, sym, ap, ap₂, ◌∙◌}
-use mathlib.Core.List.{List, [], ◌∷◌, ◌++◌, map, append-nil}
-use Prim.Native.Nat.{ℕ, zero, suc, ◌+◌, ◌-◌, ◌≤◌, ◌<◌}
+use mathlib.Core.List.{List, [], ◌∷◌, ◌++◌, map, map-append, append_assoc}
+use Prim.Native.Nat.{ℕ, suc, ◌+◌, ◌-◌, ◌≤◌, ◌<◌}
 use native.Mathlib.Omega.{arith}
-use native.Mathlib.Nat.{add-suc, add-zero, suc-add}
 use native.Mathlib.Numerals.{add-one}
-use lib.ListN.{length, get_or, take, drop, set, replicate, length-set, length-drop, take-append-drop}
-use lib.Seq.{set_split, take-set-le, drop-set-add, drop-set-lt, drop-cons, take-suc, take-suc-set, append_snoc, get_or-drop, take-length, drop-length}
-use borrow.Author.Tests.{lt-ltb, le-ltb}
-use Rattle.outline.specs.Rows.{kind_of, indent_of}
-use Rattle.outline.specs.Forming.{raised, turned, nought, changed_in, inserted}
-use Rattle.outline.proofs.Along.{left_turn, left_end}
+use lib.ListN.{length, get_or, take, drop, set, replicate, length-map}
+use lib.Seq.{drop-drop, drop-cons, take-suc, append_snoc, length-take-le, set_at, get_or_at}
+use borrow.Rule.Slice.PartMut.{put_mid}
+use Rattle.std.specs.List.{copy_within}
+use Rattle.outline.specs.Rows.{indent_of}
+use Rattle.outline.specs.Forming.{nought, changed_in, inserted}
 
--- ---- each place changed
-module _ (f : ℕ → ℕ) where
-  unfoldable pub change_f : List ℕ → ℕ → ℕ → List ℕ
-  change_f s a zero = s
-  change_f s a (suc m) = change_f (set s a (f (get_or s a 0))) (suc a) m
-
-  change_is : (m : ℕ) (s : List ℕ) (a : ℕ) → a + m ≤ length s → change_f s a m ≡ take a s ++ (map f (take m (drop a s)) ++ drop (a + m) s)
-  unfolding change_f
-  change_is zero s a h = sym (ap (λ (k : ℕ). take a s ++ drop k s) (add-zero a) ∙ take-append-drop a s)
-  change_is (suc m) s a h =
-      let v : ℕ = f (get_or s a 0) in
-      let lt : a < length s = omega (arith, add-suc a m) in
-      change_is m (set s a v) (suc a) (omega (arith, length-set s a v, add-suc a m))
-      ∙ rw (take-suc-set s a v lt, drop-set-lt (suc a) s a v (omega arith), drop-set-lt (suc a + m) s a v (omega arith), append_snoc, drop-cons s a 0 lt, add-suc a m, suc-add a m)
-
-  pub changed_all : (s : List ℕ) (a b : ℕ) → a ≤ b → b ≤ length s → change_f s a (b - a) ≡ changed_in f s a b
-  unfolding changed_in
-  changed_all s a b h k =
-      let e : a + (b - a) ≡ b = omega arith in
-      change_is (b - a) s a (omega arith) ∙ ap (λ (q : ℕ). take a s ++ (map f (take (b - a) (drop a s)) ++ drop q s)) e
-
-  pub change_turn : (s : List ℕ) (k b v : ℕ) → k < b → v ≡ f (get_or s k 0) → change_f s k (b - k) ≡ change_f (set s k v) (k + 1) (b - (k + 1))
-  unfolding change_f
-  change_turn s k b v h q = left_turn (change_f s k) k b h ∙ ap₂ (λ (i w : ℕ). change_f (set s k w) i (b - (k + 1))) (sym (add-one k)) (sym q)
-
-  pub change_end : (s : List ℕ) (k b : ℕ) → b ≤ k → change_f s k (b - k) ≡ s
-  unfolding change_f
-  change_end s k b = left_end (change_f s k) k b
+-- a row of a part changed by f, where those before it are
+pub changed_turn : (f : ℕ → ℕ) (l : List ℕ) (i v : ℕ) → i < length l → v ≡ f (get_or (map f (take i l) ++ drop i l) i 0)
+    → set (map f (take i l) ++ drop i l) i v ≡ map f (take (i + 1) l) ++ drop (i + 1) l
+changed_turn f l i v h q =
+    let y : ℕ = get_or l i 0 in
+    let p : List ℕ = map f (take i l) in
+    let z : List ℕ = drop (suc i) l in
+    let n : length p ≡ i = length-map (take i l) f ∙ length-take-le i l (omega arith) in
+    let e : drop i l ≡ y ∷ z = drop-cons l i 0 h in
+    let ev : v ≡ f y = q ∙ ap f (ap (λ (r : List ℕ). get_or (p ++ r) i 0) e ∙ get_or_at p y z 0 i n) in
+    ap (λ (r : List ℕ). set (p ++ r) i v) e ∙ set_at p y z v i n ∙ ap (λ (w : ℕ). p ++ w ∷ z) ev ∙ sym (append_snoc p (f y) z)
+    ∙ ap (λ (r : List ℕ). r ++ z) (sym (ap (map f) (take-suc l i 0 h) ∙ map-append f (take i l) (y ∷ [])))
+    ∙ ap (λ (k : ℕ). map f (take k l) ++ drop k l) (sym (add-one i))
 
 pub zeros : (l : List ℕ) → map nought l ≡ replicate (length l) 0
 unfolding nought
 zeros [] = refl
 zeros (x ∷ l) = ap (λ (z : List ℕ). 0 ∷ z) (zeros l)
 
--- all of it cleared
-pub all_clear : (s : List ℕ) → changed_in nought s 0 (length s) ≡ replicate (length s) 0
+-- zeros put in place of a part
+pub cleared_part : (s t : List ℕ) (a b : ℕ) → a ≤ b → b ≤ length s → t ≡ replicate (length (take (b - a) (drop a s))) 0 → put_mid a (b - a) s t ≡ changed_in nought s a b
 unfolding changed_in
-all_clear s =
-    let e : length s - 0 ≡ length s = omega arith in
-    ap₂ (λ (a b : List ℕ). map nought a ++ b) (ap (λ (k : ℕ). take k s) e ∙ take-length s) (drop-length s) ∙ append-nil (map nought s) ∙ zeros s
+cleared_part s t a b h k e =
+    let d : a + (b - a) ≡ b = omega arith in
+    ap₂ (λ (x y : List ℕ). take a s ++ (x ++ y)) (e ∙ sym (zeros (take (b - a) (drop a s)))) (drop-drop (b - a) a s ∙ ap (λ (k : ℕ). drop k s) d)
 
--- ---- the rest one place on
-unfoldable pub shift_f : List ℕ → ℕ → ℕ → List ℕ
-shift_f s j zero = s
-shift_f s j (suc m) = shift_f (set s (suc (j + m)) (get_or s (j + m) 0)) j m
-
-shift_is : (m : ℕ) (s : List ℕ) (j v : ℕ) → j + m < length s → set (shift_f s j m) j v ≡ take j s ++ v ∷ (take m (drop j s) ++ drop (suc (j + m)) s)
-unfolding shift_f
-shift_is zero s j v h = let e : j + 0 ≡ j = omega arith in set_split s j v (omega arith) ∙ ap (λ (k : ℕ). take j s ++ v ∷ drop (suc k) s) (sym e)
-shift_is (suc m) s j v h =
-    let g : ℕ = get_or s (j + m) 0 in
-    let p : ℕ = suc (j + m) in
-    let e₁ : take j (set s p g) ≡ take j s = take-set-le j s p g (omega arith) in
-    let e₂ : take m (drop j (set s p g)) ≡ take m (drop j s) =
-    ap (λ (q : ℕ). take m (drop j (set s q g))) (sym (add-suc j m)) ∙ ap (take m) (drop-set-add j s (suc m) g) ∙ take-set-le m (drop j s) (suc m) g (omega arith) in
-    let e₃ : drop p (set s p g) ≡ g ∷ drop (suc p) s =
-    ap (λ (q : ℕ). drop p (set s q g)) (sym (add-zero p)) ∙ drop-set-add p s 0 g ∙ ap (λ (l : List ℕ). set l 0 g) (drop-cons s p 0 (omega (arith, add-suc j m))) in
-    let e₄ : take (suc m) (drop j s) ≡ take m (drop j s) ++ (g ∷ []) =
-    take-suc (drop j s) m 0 (omega (arith, length-drop j s)) ∙ ap (λ (q : ℕ). take m (drop j s) ++ (q ∷ [])) (get_or-drop j s m 0) in
-    shift_is m (set s p g) j v (omega (arith, length-set s p g))
-    ∙ ap₂ (λ (x : List ℕ) (y : List ℕ). x ++ v ∷ y) e₁
-    (ap₂ (λ (x : List ℕ) (y : List ℕ). x ++ y) e₂ e₃ ∙ sym (append_snoc (take m (drop j s)) g (drop (suc p) s))
-    ∙ ap₂ (λ (x : List ℕ) (y : List ℕ). x ++ y) (sym e₄) (ap (λ (q : ℕ). drop (suc q) s) (sym (add-suc j m))))
-
-pub shifted_all : (s : List ℕ) (n j v : ℕ) → j ≤ n → n < length s → set (shift_f s j (n - j)) j v ≡ inserted s n j v
+-- v put in at j, the rows from j up to n being one place on
+pub put_in : (R : List ℕ) (n j v : ℕ) → j ≤ n → n < length R → set (copy_within R j n (j + 1)) j v ≡ inserted R n j v
 unfolding inserted
-shifted_all s n j v h k =
-    let e : j + (n - j) ≡ n = omega arith in
-    shift_is (n - j) s j v (omega arith) ∙ ap (λ (q : ℕ). take j s ++ v ∷ (take (n - j) (drop j s) ++ drop (suc q) s)) e
-
-pub shift_turn : (s : List ℕ) (j k : ℕ) → j < k → shift_f s j (k - j) ≡ shift_f (set s k (get_or s (k - 1) 0)) j (k - 1 - j)
-unfolding shift_f
-shift_turn s j k h =
-    let e : k - j ≡ suc (k - 1 - j) = omega arith in
-    let e₁ : j + (k - 1 - j) ≡ k - 1 = omega arith in
-    let e₂ : suc (j + (k - 1 - j)) ≡ k = omega arith in
-    ap (shift_f s j) e ∙ ap₂ (λ (p q : ℕ). shift_f (set s p (get_or s q 0)) j (k - 1 - j)) e₂ e₁
-
-pub shift_end : (s : List ℕ) (j k : ℕ) → k ≤ j → shift_f s j (k - j) ≡ s
-unfolding shift_f
-shift_end s j k = left_end (shift_f s j) j k
-
--- ---- one brace more
-module _ (w x : ℕ) (e : x ≡ indent_of w) where
-  pub up_in : x < 4095 → w + 16 ≡ raised w
-  unfolding raised
-  up_in h = let k : indent_of w < 4095 = omega arith in simp (lt-ltb (indent_of w) 4095 k)
-
-  pub up_top : 4095 ≤ x → w ≡ raised w
-  unfolding raised
-  up_top h = let k : 4095 ≤ indent_of w = omega arith in simp (le-ltb (indent_of w) 4095 k)
-
-  pub up_fits : x < 4095 → w < 18446744073709551616 → w + 16 < 18446744073709551616
-  up_fits h k = omega arith
-
--- ---- another kind
-module _ (w x v : ℕ) (e : x ≡ kind_of w) where
-  pub turn_in : x < 8 → w + v ≡ turned v w
-  unfolding turned
-  turn_in h = let k : kind_of w < 8 = omega arith in simp (lt-ltb (kind_of w) 8 k)
-
-  pub turn_top : 8 ≤ x → w ≡ turned v w
-  unfolding turned
-  turn_top h = let k : 8 ≤ kind_of w = omega arith in simp (le-ltb (kind_of w) 8 k)
-
-  pub turn_fits : v < 8 → x < 8 → w < 18446744073709551616 → w + v < 18446744073709551616
-  turn_fits a h k = omega arith
+put_in R n j v h k =
+    let x : ℕ = get_or R j 0 in
+    let p : List ℕ = take j R in
+    let m : List ℕ = take (n - j) (drop j R) in
+    let z : List ℕ = drop (suc n) R in
+    let e : take (j + 1) R ≡ p ++ x ∷ [] = ap (λ (i : ℕ). take i R) (add-one j) ∙ take-suc R j 0 (omega arith) in
+    let d : j + 1 + (n - j) ≡ suc n = omega arith in
+    ap (λ (y : List ℕ). set y j v) (append_assoc (take (j + 1) R) m (drop (j + 1 + (n - j)) R)) ∙ ap₂ (λ (y : List ℕ) (i : ℕ). set (y ++ (m ++ drop i R)) j v) e d
+    ∙ ap (λ (y : List ℕ). set y j v) (append_snoc p x (m ++ z)) ∙ set_at p x (m ++ z) v j (length-take-le j R (omega arith))
 
 pub indent_small : (w : ℕ) → indent_of w < 4096
 indent_small w = omega arith

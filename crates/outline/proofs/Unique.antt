@@ -4,6 +4,7 @@ use mathlib.Core.Bool.{Bool}
 use mathlib.Core.List.{List}
 use Prim.Native.Nat.{ℕ}
 use lib.ListN.{length}
+use Rattle.outline.specs.declared.rows.Seen.{Seen}
 use Rattle.outline.specs.Rows.{kind_of, indent_of, name_of}
 use Rattle.outline.specs.Tests.{is_goto, verdict, back_verdict, too_deep}
 use Rattle.outline.specs.Spans.{widened, note_row, note_from, spans_of, outside, aimed_out, reached_in}
@@ -20,12 +21,6 @@ module _ (r s : ℕ) where
   pub name_of_lem : (w : ℕ) → r ≡ name_of w → s ≡ name_of w → r ≡ s
   name_of_lem w p q = p ∙ sym q
 
-  pub judge : (m d w : ℕ) → r ≡ verdict m d w → s ≡ verdict m d w → r ≡ s
-  judge m d w p q = p ∙ sym q
-
-  pub judge_back : (m d w : ℕ) → r ≡ back_verdict m d w → s ≡ back_verdict m d w → r ≡ s
-  judge_back m d w p q = p ∙ sym q
-
   pub up : (w : ℕ) → r ≡ raised w → s ≡ raised w → r ≡ s
   up w p q = p ∙ sym q
 
@@ -34,6 +29,14 @@ module _ (r s : ℕ) where
 
   pub widen : (e i : ℕ) → r ≡ widened e i → s ≡ widened e i → r ≡ s
   widen e i p q = p ∙ sym q
+
+-- ---- what a row is to a search
+module _ (r s : Seen) where
+  pub judge : (m d w : ℕ) → r ≡ verdict m d w → s ≡ verdict m d w → r ≡ s
+  judge m d w p q = p ∙ sym q
+
+  pub judge_back : (m d w : ℕ) → r ≡ back_verdict m d w → s ≡ back_verdict m d w → r ≡ s
+  judge_back m d w p q = p ∙ sym q
 
 -- ---- tests
 module _ (r s : Bool) where

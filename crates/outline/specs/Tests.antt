@@ -1,6 +1,8 @@
 -- What the passes ask of a row: the tests of the definition on a line's sort and indent, read off the row's numbers.
 use Rattle.std.specs.Prelude.{Bool, false, not, cond, ◌&&◌, ◌||◌, List, ℕ, zero, suc, eqb, ltb, leb}
 use Rattle.definition.specs.Lists.{at}
+use Rattle.outline.specs.declared.rows.Seen.{Seen}
+use Rattle.outline.specs.declared.rows.Seen.TheVariants.{Pass, Hit, End}
 use Rattle.outline.specs.Rows.{LABEL, COND, JUMP, kind_of, indent_of, name_of}
 
 -- a row of kind k: a label; a conditional jump; any goto
@@ -27,13 +29,13 @@ backs m w = is_cond w && eqb (name_of w) m
 unfoldable pub stops : ℕ → ℕ → Bool
 stops d w = ltb (indent_of w) d && not (is_label w && eqb (suc (indent_of w)) d)
 
--- what a row is to a scan at depth d for the label m: 1 the label, 2 the end, 0 to pass
-unfoldable pub verdict : ℕ → ℕ → ℕ → ℕ
-verdict m d w = cond (labels m w && eqb (suc (indent_of w)) d) 1 (cond (stops d w) 2 0)
+-- what a row is to a scan at depth d for the label m
+unfoldable pub verdict : ℕ → ℕ → ℕ → Seen
+verdict m d w = cond (labels m w && eqb (suc (indent_of w)) d) Hit (cond (stops d w) End Pass)
 
--- what it is to a search for the back edges to m: 2 the end, 1 a back edge, 0 to pass
-unfoldable pub back_verdict : ℕ → ℕ → ℕ → ℕ
-back_verdict m d w = cond (stops d w) 2 (cond (eqb (indent_of w) d && backs m w) 1 0)
+-- what it is to a search for the back edges to m
+unfoldable pub back_verdict : ℕ → ℕ → ℕ → Seen
+back_verdict m d w = cond (stops d w) End (cond (eqb (indent_of w) d && backs m w) Hit Pass)
 
 -- 9: raised, the row would stand inside more than 254 open braces
 unfoldable pub too_deep : ℕ → Bool

@@ -6,35 +6,30 @@ use crate::rows::{indent_of, kind_of, too_deep};
 use slices::get;
 
 // The row inside one brace more.
+#[tactic(auto, unfolding(crate::specs::Forming::raised))]
 pub fn up(w: u64) -> u64
     ensures { result ≡ raised w }
 {
-    if indent_of(w) < 4095 {
-        return w + 16;
-    }
-    w
+    if indent_of(w) < 4095 { w + 16 } else { w }
 }
 
 // The row with v more for its kind.
+#[tactic(auto, unfolding(crate::specs::Forming::turned))]
 pub fn turn(w: u64, v: u64) -> u64
     requires { v < 8 }
     ensures { result ≡ turned v w }
 {
-    if kind_of(w) < 8 {
-        return w + v;
-    }
-    w
+    if kind_of(w) < 8 { w + v } else { w }
 }
 
 // Each row from a up to b inside one brace more.
+#[tactic(auto, unfolding(crate::specs::Forming::changed_in))]
 pub fn raise(rows: &mut [u64], a: usize, b: usize)
     requires { (a ≤ b) × (b ≤ length rows.old) }
     ensures { rows.new ≡ changed_in raised rows.old a b }
 {
-    let mut k = a;
-    while k < b {
-        rows[k] = up(rows[k]);
-        k += 1;
+    for row in rows[a..b].iter_mut() {
+        *row = up(*row);
     }
 }
 
@@ -43,11 +38,7 @@ pub fn clear(s: &mut [u64], a: usize, b: usize)
     requires { (a ≤ b) × (b ≤ length s.old) }
     ensures { s.new ≡ changed_in nought s.old a b }
 {
-    let mut k = a;
-    while k < b {
-        s[k] = 0;
-        k += 1;
-    }
+    s[a..b].fill(0);
 }
 
 // Puts v at j, and the rows from j up to n one place on.
@@ -55,11 +46,7 @@ pub fn insert_row(rows: &mut [u64], n: usize, j: usize, v: u64)
     requires { (j ≤ n) × (n < length rows.old) }
     ensures { rows.new ≡ inserted rows.old n j v }
 {
-    let mut k = n;
-    while j < k {
-        rows[k] = rows[k - 1];
-        k -= 1;
-    }
+    rows.copy_within(j..n, j + 1);
     rows[j] = v;
 }
 
@@ -67,12 +54,5 @@ pub fn insert_row(rows: &mut [u64], n: usize, j: usize, v: u64)
 pub fn deep_in(rows: &[u64], i: usize, j: usize) -> bool
     ensures { result ≡ deep_in rows.now i j }
 {
-    let mut k = i;
-    while k < j {
-        if too_deep(get(rows, k)) {
-            return true;
-        }
-        k += 1;
-    }
-    false
+    (i..j).any(|k| too_deep(get(rows, k)))
 }

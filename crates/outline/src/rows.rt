@@ -3,7 +3,7 @@ ghost use Rattle.std.specs.Prelude.{◌≡◌};
 ghost use Rattle.outline.specs.Rows.{kind_of, indent_of, name_of};
 ghost use Rattle.outline.specs.Tests.{is_goto, verdict, back_verdict, too_deep};
 
-// The kinds of rows that the passes look for.
+// The kinds of rows that the passes look for: numbers, since a row is one word of a lent table, and forming a region adds to its kind.
 pub const LABEL: u64 = 1;
 
 pub const COND: u64 = 2;
@@ -29,69 +29,66 @@ pub fn name_of(w: u64) -> u64
 }
 
 // Whether the row is a goto.
+#[tactic(auto, unfolding(crate::specs::Tests::is_goto))]
 pub fn is_goto(w: u64) -> bool
     ensures { result ≡ is_goto w }
 {
     let k = kind_of(w);
-    if k == COND {
-        return true;
-    }
-    k == JUMP
+    k == COND || k == JUMP
 }
 
-// What the row is to a scan at depth d for the label m: 1 the label, 2 the end, 0 to pass.
-pub fn judge(w: u64, m: u64, d: u64) -> u64
+// What a row is to a search along the rows: passed by, what is sought, or where the search ends.
+#[derive(Clone, Copy, PartialEq, Eq)]
+pub enum Seen {
+    Pass,
+    Hit,
+    End,
+}
+
+// What the row is to a scan at depth d for the label m.
+#[tactic(auto, unfolding(crate::specs::Tests::verdict, crate::specs::Tests::labels, crate::specs::Tests::stops, crate::specs::Tests::is_kind))]
+pub fn judge(w: u64, m: u64, d: u64) -> Seen
     ensures { result ≡ verdict m d w }
 {
     let x = indent_of(w);
     if d <= x {
-        return 0;
+        return Seen::Pass;
     }
-    if x + 1 != d {
-        return 2;
-    }
-    if kind_of(w) != LABEL {
-        return 2;
+    if x + 1 != d || kind_of(w) != LABEL {
+        return Seen::End;
     }
     if name_of(w) == m {
-        return 1;
+        Seen::Hit
+    } else {
+        Seen::Pass
     }
-    0
 }
 
-// What the row is to a search at depth d for the back edges to m: 2 the end, 1 a back edge, 0 to pass.
-pub fn judge_back(w: u64, m: u64, d: u64) -> u64
+// What the row is to a search at depth d for the back edges to m.
+#[tactic(auto, unfolding(crate::specs::Tests::back_verdict, crate::specs::Tests::backs, crate::specs::Tests::stops, crate::specs::Tests::is_kind))]
+pub fn judge_back(w: u64, m: u64, d: u64) -> Seen
     ensures { result ≡ back_verdict m d w }
 {
     let x = indent_of(w);
     if x < d {
-        if x + 1 != d {
-            return 2;
-        }
-        if kind_of(w) != LABEL {
-            return 2;
-        }
-        return 0;
+        return if x + 1 != d || kind_of(w) != LABEL {
+            Seen::End
+        } else {
+            Seen::Pass
+        };
     }
-    if x != d {
-        return 0;
+    if x == d && kind_of(w) == COND && name_of(w) == m {
+        Seen::Hit
+    } else {
+        Seen::Pass
     }
-    if kind_of(w) != COND {
-        return 0;
-    }
-    if name_of(w) == m {
-        return 1;
-    }
-    0
 }
 
 // Whether the row, raised, would stand inside more than 254 open braces.
+#[tactic(auto, unfolding(crate::specs::Tests::too_deep, crate::specs::Tests::is_kind))]
 pub fn too_deep(w: u64) -> bool
     ensures { result ≡ too_deep w }
 {
-    let x = indent_of(w);
-    if kind_of(w) == LABEL {
-        return 254 <= x;
-    }
-    255 <= x
+    let most = if kind_of(w) == LABEL { 254 } else { 255 };
+    most <= indent_of(w)
 }

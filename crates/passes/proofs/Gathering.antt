@@ -1,8 +1,8 @@
 -- Dropping, one turn at a time, and what the loop comes to: the rows kept, one behind the other, before what stood behind them.
 use mathlib.Core.Path.{◌≡◌, refl, sym, ap, ap₂, ◌∙◌}
-use mathlib.Core.Bool.{Bool, true, false, not, cond, ◌||◌}
+use mathlib.Core.Bool.{Bool, true, false, cond}
 use mathlib.Core.List.{List, ◌∷◌, ◌++◌, map}
-use Prim.Native.Nat.{ℕ, zero, suc, ◌+◌, ◌-◌, ◌≤◌, ◌<◌}
+use Prim.Native.Nat.{ℕ, min, zero, suc, ◌+◌, ◌-◌, ◌≤◌, ◌<◌}
 use native.Mathlib.Omega.{arith}
 use native.Mathlib.Nat.{min-le_right}
 use native.Mathlib.Numerals.{add-one}
@@ -12,22 +12,11 @@ use lib.Seq.{take_all, take-length, drop-length, take_at, drop_at, drop-drop, dr
 use Rattle.definition.specs.Lists.{only, at}
 use Rattle.definition.proofs.ListLaws.{only_length}
 use Rattle.definition.proofs.Runs.{loop_start}
-use Rattle.outline.specs.Rows.{kind_of}
-use Rattle.outline.specs.Spans.{spans_of, aimed_out}
+use Rattle.outline.specs.Spans.{spans_of}
 use Rattle.outline.specs.Forming.{nought, changed_in}
 use Rattle.outline.proofs.Along.{left_turn, left_end}
-use Rattle.outline.proofs.Verdicts.{kind_is, kind_not}
 use Rattle.outline.proofs.Moves.{zeros}
 use Rattle.passes.specs.Dropping.{kept_row, kept_rows, Gathered, gathered, placed, gather_from, drop_rows}
-
-module _ (S : List ℕ) (n w k : ℕ) (e : k ≡ kind_of w) where
-  pub keep_other : (k ≡ 1 → ⊥) → true ≡ kept_row S n w
-  unfolding kept_row
-  keep_other a = rw (kind_not w 1 (λ z. a (e ∙ z)))
-
-  pub keep_label : k ≡ 1 → (b : Bool) → b ≡ aimed_out S n n w → b ≡ kept_row S n w
-  unfolding kept_row
-  keep_label a b h = h ∙ sym (ap (λ (q : Bool). not q || aimed_out S n n w) (kind_is w 1 (sym e ∙ a)))
 
 module _ (b : Bool) (R : List ℕ) (c w : ℕ) where
   pub place_yes : b ≡ true → gathered (c + 1) (set R c w) ≡ placed b R c w
@@ -37,11 +26,6 @@ module _ (b : Bool) (R : List ℕ) (c w : ℕ) where
   pub place_no : b ≡ false → gathered c R ≡ placed b R c w
   unfolding placed
   place_no e = rw e
-
-pub place_count : (b : Bool) (R : List ℕ) (c w c' : ℕ) (R' : List ℕ) → gathered c' R' ≡ placed b R c w → c' ≤ c + 1
-unfolding placed
-place_count true R c w c' R' e = let h : c' ≡ c + 1 = ap (λ (g : Gathered). g.count) e in omega arith
-place_count false R c w c' R' e = let h : c' ≡ c = ap (λ (g : Gathered). g.count) e in omega arith
 
 module _ (p : ℕ → Bool) (m i : ℕ) (R : List ℕ) (c : ℕ) where
   pub gather_turn : i < m → (w : ℕ) → w ≡ at R i → (b : Bool) → b ≡ p w → (c' : ℕ) (R' : List ℕ) → gathered c' R' ≡ placed b R c w
@@ -107,11 +91,8 @@ cleared R ws m h l =
 
 -- the first n rows, where there may be fewer
 module _ (R : List ℕ) (n : ℕ) where
-  pub count_all : length R < n → length R ≡ length (take n R)
-  count_all h = sym (ap length (take_all n R (omega arith)))
-
-  pub count_some : n ≤ length R → n ≡ length (take n R)
-  count_some h = sym (length-take-le n R h)
+  pub count_is : (m : ℕ) → m ≡ min n (length R) → m ≡ length (take n R)
+  count_is m e = e ∙ sym (length-take n R)
 
   pub count_le : (m : ℕ) → m ≡ length (take n R) → m ≤ length R
   count_le m e = omega (arith, length-take n R, min-le_right n (length R))

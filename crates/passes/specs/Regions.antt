@@ -1,17 +1,23 @@
 -- A region on rows: where the one that begins at a row ends, and what the rows are when it is formed.
-use Rattle.std.specs.Prelude.{cond, ◌||◌, List, ℕ, zero, suc, ◌+◌, ◌*◌, ◌-◌, eqb, set}
+use Rattle.std.specs.Prelude.{cond, ◌||◌, List, Option, None, Some, ℕ, ◌+◌, ◌*◌, ◌-◌, eqb, set}
 use Rattle.definition.specs.Lists.{at}
+use Rattle.outline.specs.declared.rows.Seen.{Seen}
+use Rattle.outline.specs.declared.rows.Seen.TheVariants.{Pass, Hit, End}
 use Rattle.outline.specs.Rows.{CLOSE, indent_of, name_of}
 use Rattle.outline.specs.Tests.{is_cond, is_label, verdict, back_verdict, along}
 use Rattle.outline.specs.Spans.{outside, reached_in}
 use Rattle.outline.specs.Forming.{raised, turned, changed_in, inserted}
 
+-- the row that a search below n came to, where n stands for none
+unfoldable pub found : ℕ → ℕ → Option ℕ
+found n j = cond (eqb j n) None (Some j)
+
 -- ---- ifs
 -- the place of the label, the end n, or what the rows behind say
-unfoldable pub onward : ℕ → ℕ → ℕ → ℕ → ℕ
-onward zero i n r = r
-onward (suc zero) i n r = i
-onward (suc (suc v)) i n r = n
+unfoldable pub onward : Seen → ℕ → ℕ → ℕ → ℕ
+onward Pass i n r = r
+onward Hit i n r = i
+onward End i n r = n
 
 -- the row of the label m at depth d - 1, of f rows from row j on; n where the scan ends without it
 unfoldable pub label_from : ℕ → ℕ → ℕ → List ℕ → ℕ → ℕ → ℕ
@@ -29,10 +35,10 @@ if_goal R S n k =
 
 -- ---- loops
 -- the last back edge: a later one, this one, or none
-unfoldable pub latest : ℕ → ℕ → ℕ → ℕ → ℕ
-latest zero i n r = r
-latest (suc zero) i n r = cond (eqb r n) i r
-latest (suc (suc v)) i n r = n
+unfoldable pub latest : Seen → ℕ → ℕ → ℕ → ℕ
+latest Pass i n r = r
+latest Hit i n r = cond (eqb r n) i r
+latest End i n r = n
 
 -- the row of the last conditional jump to m at depth d, of f rows from row j on; n where the search ends without it
 unfoldable pub back_from : ℕ → ℕ → ℕ → List ℕ → ℕ → ℕ → ℕ

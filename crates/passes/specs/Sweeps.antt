@@ -1,24 +1,29 @@
 -- The passes on rows: each row is tried once, the next row next.
-use Rattle.std.specs.Prelude.{Bool, cond, ◌||◌, List, ℕ, zero, suc, ◌+◌, eqb, ltb, leb, length}
+use Rattle.std.specs.Prelude.{Bool, true, false, cond, ◌||◌, List, Result, Ok, Err, ℕ, zero, suc, ◌+◌, eqb, ltb, leb, length}
+use Rattle.std.specs.Int.{from_bool}
 use Rattle.outline.specs.Spans.{spans_of}
 use Rattle.outline.specs.Forming.{deep_in}
-use Rattle.passes.specs.declared.sweeps.Passed.{Passed}
-use Rattle.passes.specs.declared.sweeps.Passed.TheVariants.{Done, TooDeep}
+use Rattle.passes.specs.declared.sweeps.Formed.{Formed}
+use Rattle.passes.specs.declared.sweeps.TooDeep.{TooDeep}
 use Rattle.passes.specs.Regions.{if_goal, do_goal, formed_if, formed_do}
 
--- a try at a row: 0 no region, 1 formed, 2 too deep or no room; and both tables behind it
+-- the one refusal: a row too deep, or no room for a row
+abbrev pub too_deep : TooDeep
+too_deep = record {}
+
+-- a try at a row: whether a region was formed, unless it was refused; and both tables behind it
 pub record Tried : Type 0 where
-  pub says : ℕ
+  pub says : Result Bool TooDeep
   pub rows : List ℕ
   pub spans : List ℕ
 
 -- its value from the three
-abbrev pub tried : ℕ → List ℕ → List ℕ → Tried
+abbrev pub tried : Result Bool TooDeep → List ℕ → List ℕ → Tried
 tried v R S = record { says = v; rows = R; spans = S }
 
 -- unless there is none, or it is too deep, a region takes the rows R to the m rows of Q
 unfoldable pub tried_at : Bool → Bool → List ℕ → List ℕ → List ℕ → ℕ → Tried
-tried_at b d R S Q m = cond b (tried 0 R S) (cond d (tried 2 R S) (tried 1 Q (spans_of (length S) Q m)))
+tried_at b d R S Q m = cond b (tried (Ok false) R S) (cond d (tried (Err too_deep) R S) (tried (Ok true) Q (spans_of (length S) Q m)))
 
 -- the try of the if at row k of n: no room is as too deep
 unfoldable pub if_tried : List ℕ → List ℕ → ℕ → ℕ → Tried
@@ -34,36 +39,42 @@ do_tried R S n k =
 
 -- what a pass answers, and both tables behind it
 pub record Swept : Type 0 where
-  pub passed : Passed
+  pub passed : Result Formed TooDeep
   pub rows : List ℕ
   pub spans : List ℕ
 
 -- its value from the three
-abbrev pub swept : Passed → List ℕ → List ℕ → Swept
+abbrev pub swept : Result Formed TooDeep → List ℕ → List ℕ → Swept
 swept p R S = record { passed = p; rows = R; spans = S }
 
 -- n rows, and c regions formed
-abbrev pub done : ℕ → ℕ → Passed
-done n c = Done (record { rows = n; regions = c })
+abbrev pub done : ℕ → ℕ → Result Formed TooDeep
+done n c = Ok (record { rows = n; regions = c })
+
+-- a number, one more where a region was formed
+abbrev pub more : ℕ → Bool → ℕ
+more n b = n + from_bool b
 
 -- a try at each row from row k on, with c regions formed before; `grown` is how many rows there are after a try
-module _ (try : List ℕ → List ℕ → ℕ → ℕ → Tried) (grown : ℕ → ℕ → ℕ) where
+module _ (try : List ℕ → List ℕ → ℕ → ℕ → Tried) (grown : ℕ → Bool → ℕ) where
   unfoldable pub sweep_rows : ℕ → List ℕ → List ℕ → ℕ → ℕ → ℕ → Swept
   sweep_rows zero R S k n c = swept (done n c) R S
   sweep_rows (suc f) R S k n c =
       let t = try R S n k in
       cond (ltb k n)
-      (cond (eqb t.says 2) (swept TooDeep t.rows t.spans)
-      (sweep_rows f t.rows t.spans (suc k) (grown n t.says) (c + t.says)))
+      (elim t.says [
+        | Err e ↦ swept (Err e) t.rows t.spans
+        | Ok b ↦ sweep_rows f t.rows t.spans (suc k) (grown n b) (more c b)
+      ])
       (swept (done n c) R S)
 
 -- a loop adds no row
-abbrev pub keeps : ℕ → ℕ → ℕ
-keeps n v = n
+abbrev pub keeps : ℕ → Bool → ℕ
+keeps n b = n
 
 -- the passes over the first n rows, with spans made of them
 unfoldable pub if_rows : List ℕ → List ℕ → ℕ → Swept
-if_rows R S n = sweep_rows if_tried ◌+◌ (length R + n) R (spans_of (length S) R n) 0 n 0
+if_rows R S n = sweep_rows if_tried more (length R + n) R (spans_of (length S) R n) 0 n 0
 
 unfoldable pub do_rows : List ℕ → List ℕ → ℕ → Swept
 do_rows R S n = sweep_rows do_tried keeps (length R + n) R (spans_of (length S) R n) 0 n 0

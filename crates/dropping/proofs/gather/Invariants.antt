@@ -6,7 +6,4 @@ use Prim.Native.Nat.{◌-◌, ◌≤◌}
 use Rattle.dropping.proofs.gather.Given as goal
 
 abbrev pub invariant-loop-i : goal.invariant-loop-i
-invariant-loop-i l = (l.c ≤ l.i) × (l.i ≤ l.m) × (length l.rows ≡ length l.initial.rows) × (gather_from (kept_row l.spans l.n) l.initial.rows 0 l.m 0 ≡ gather_from (kept_row l.spans l.n) l.rows l.i (l.m - l.i) l.c)
-
-abbrev pub decreases-loop-i : goal.decreases-loop-i
-decreases-loop-i l = l.m - l.i
+invariant-loop-i l = (l.c ≤ l.i) × (length l.rows ≡ length l.initial.rows) × (gather_from (kept_row l.spans l.n) l.initial.rows 0 l.m 0 ≡ gather_from (kept_row l.spans l.n) l.rows l.i (l.m - l.i) l.c)

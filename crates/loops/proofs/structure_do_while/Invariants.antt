@@ -8,6 +8,3 @@ use Rattle.loops.proofs.structure_do_while.Given as goal
 abbrev pub invariant-loop-k : goal.invariant-loop-k
 invariant-loop-k l = (l.regions ≤ l.k) × (length l.rows ≡ length l.initial.rows) × (length l.spans ≡ length l.initial.spans)
     × (sweep_rows do_tried keeps (length l.initial.rows + l.n) l.initial.rows l.initial.spans 0 l.n 0 ≡ sweep_rows do_tried keeps (length l.initial.rows + l.n - l.k) l.rows l.spans l.k l.n l.regions)
-
-abbrev pub decreases-loop-k : goal.decreases-loop-k
-decreases-loop-k l = l.n - l.k

@@ -1,20 +1,6 @@
-use Rattle.outline.proofs.Moves.{changed_all, change_turn, change_end}
-use Rattle.outline.specs.Forming.{nought}
-use lib.ListN.{length-set}
-use mathlib.Core.Path.{refl, sym, ◌∙◌}
-use Prim.Native.Nat.{◌-◌}
-use native.Mathlib.Omega.{arith}
+-- The part filled with zeros, with what stands before it and behind it.
+use Rattle.outline.proofs.Moves.{cleared_part}
 use Rattle.outline.proofs.forming.clear.Goals as goal
 
-pub loop-k-init : goal.loop-k-init
-loop-k-init c = (omega arith, omega arith, refl, refl)
-
-pub loop-k-preserved : goal.loop-k-preserved
-unfolding nought
-loop-k-preserved c = let l = c.loop-k in
-    (omega arith, omega arith, simp length-set l.invariant.2, l.invariant.3 ∙ change_turn nought l.s l.k _ 0 (omega arith) refl)
-
 pub returns : goal.returns
-returns c = let l = c.loop-k in
-    let a = c.args in
-    sym (l.invariant.3 ∙ change_end nought l.s l.k a.b (omega arith)) ∙ changed_all nought a.s.now a.a a.b (omega arith) (omega arith)
+returns c = let a = c.args in cleared_part a.s.now _ a.a a.b c.requires.0 c.requires.1 (c.fill.ensures.after (λ y e. e))

@@ -1,19 +1,13 @@
-use Rattle.outline.proofs.Moves.{changed_all, change_turn, change_end}
+-- The row at the index is raised, as it stood; the part with those rows up to the index raised is the next invariant.
+use Rattle.outline.proofs.Moves.{changed_turn}
 use Rattle.outline.specs.Forming.{raised}
-use lib.ListN.{length-set}
-use mathlib.Core.Path.{refl, sym, ◌∙◌}
-use Prim.Native.Nat.{◌-◌}
-use native.Mathlib.Omega.{arith}
+use mathlib.Core.List.{List}
+use mathlib.Core.Path.{ap, ◌∙◌}
+use Prim.Native.Nat.{ℕ}
+use lib.ListN.{get_or, set}
 use Rattle.outline.proofs.forming.raise.Goals as goal
 
-pub loop-k-init : goal.loop-k-init
-loop-k-init c = (omega arith, omega arith, refl, refl)
-
-pub loop-k-preserved : goal.loop-k-preserved
-loop-k-preserved c = let l = c.loop-k in
-    (omega arith, omega arith, simp length-set l.invariant.2, l.invariant.3 ∙ change_turn raised l.rows l.k _ _ (omega arith) c.up.ensures)
-
-pub returns : goal.returns
-returns c = let l = c.loop-k in
-    let a = c.args in
-    sym (l.invariant.3 ∙ change_end raised l.rows l.k a.b (omega arith)) ∙ changed_all raised a.rows.now a.a a.b (omega arith) (omega arith)
+pub loop-row-preserved : goal.loop-row-preserved
+loop-row-preserved c = let l = c.loop-row in
+    ap (λ (r : List ℕ). set r l.row-index c.up.result) l.invariant
+    ∙ changed_turn raised _ l.row-index c.up.result c.loop-row-test.true (c.up.ensures ∙ ap (λ (r : List ℕ). raised (get_or r l.row-index 0)) l.invariant)

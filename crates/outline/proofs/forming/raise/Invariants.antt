@@ -1,13 +1,9 @@
--- The rows from a up to k are raised, those from k up to b are left to raise; at the end the loop's function is the definition's.
-use Rattle.outline.proofs.Moves.{change_f}
+-- The rows of the part up to the index are raised, those behind stand as they did.
 use Rattle.outline.specs.Forming.{raised}
-use lib.ListN.{length}
+use mathlib.Core.List.{map, ◌++◌}
 use mathlib.Core.Path.{◌≡◌}
-use Prim.Native.Nat.{◌-◌, ◌≤◌}
+use lib.ListN.{take, drop}
 use Rattle.outline.proofs.forming.raise.Given as goal
 
-abbrev pub invariant-loop-k : goal.invariant-loop-k
-invariant-loop-k l = (l.a ≤ l.k) × (l.k ≤ l.b) × (length l.rows ≡ length l.initial.rows) × (change_f raised l.initial.rows l.a (l.b - l.a) ≡ change_f raised l.rows l.k (l.b - l.k))
-
-abbrev pub decreases-loop-k : goal.decreases-loop-k
-decreases-loop-k l = l.b - l.k
+abbrev pub invariant-loop-row : goal.invariant-loop-row
+invariant-loop-row l = l.row-items ≡ map raised (take l.row-index l.initial.row-items) ++ drop l.row-index l.initial.row-items

@@ -1,6 +1,8 @@
 -- Cleared, the table is all zeros, and the rows noted into zeros are the spans anew.
-use Rattle.outline.proofs.SpanLaws.{spans_anew}
+use mathlib.Core.Path.{ap, ◌∙◌}
+use Rattle.outline.specs.Spans.{note_from, spans_of}
 use Rattle.outline.proofs.spans.note.Goals as goal
 
 pub returns : goal.returns
-returns c = spans_anew _ _ _ _ _ c.clear.ensures c.note_rows.ensures
+unfolding spans_of
+returns c = c.note_rows.ensures ∙ ap (note_from c.args.rows.now 0 c.args.n) (c.fill.ensures.after (λ y e. e))

@@ -1,6 +1,5 @@
 use Rattle.outline.proofs.SpanLaws.{note_turn, note_end, note_start}
 use mathlib.Core.Path.{refl, sym, ◌∙◌}
-use Prim.Native.Nat.{◌-◌}
 use Rattle.outline.proofs.spans.note_rows.Goals as goal
 
 pub loop-i-init : goal.loop-i-init

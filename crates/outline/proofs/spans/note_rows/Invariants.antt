@@ -7,6 +7,3 @@ use Rattle.outline.proofs.spans.note_rows.Given as goal
 
 abbrev pub invariant-loop-i : goal.invariant-loop-i
 invariant-loop-i l = (length l.spans ≡ length l.initial.spans) × (note_from l.rows 0 l.n l.initial.spans ≡ note_from l.rows l.i (l.n - l.i) l.spans)
-
-abbrev pub decreases-loop-i : goal.decreases-loop-i
-decreases-loop-i l = l.n - l.i

@@ -1,18 +1,10 @@
-use Rattle.outline.proofs.Along.{some_none, some_hit, some_on}
+-- The chain asks of each row from i up to j whether it is a label aimed at from outside, as the definition does.
+use Rattle.std.proofs.Common.{rules}
+use borrow.Author.Tests.{tests}
+use Rattle.outline.proofs.Along.{some_range}
 use Rattle.outline.specs.Spans.{reached_in, aimed_out}
-use mathlib.Core.Path.{refl, sym, ◌∙◌}
-use Prim.Native.Nat.{◌-◌}
 use Rattle.outline.proofs.spans.reached.Goals as goal
 
-pub loop-k-init : goal.loop-k-init
-unfolding reached_in
-loop-k-init c = refl
-
-pub returns-then-aimed_out : goal.returns-then-aimed_out
-returns-then-aimed_out c = some_hit _ _ _ _ c.loop-k-test.true _ c.get.ensures _ c.aimed_out.ensures c.if-aimed_out.true ∙ sym c.loop-k.invariant
-
-pub loop-k-preserved : goal.loop-k-preserved
-loop-k-preserved c = c.loop-k.invariant ∙ some_on _ _ _ _ c.loop-k-test.true _ c.get.ensures _ c.aimed_out.ensures c.if-aimed_out.false
-
 pub returns : goal.returns
-returns c = some_none _ _ _ _ c.loop-k-test.false ∙ sym c.loop-k.invariant
+unfolding reached_in
+returns c = let a = c.args in some_range (aimed_out a.spans.now a.a a.b) a.rows.now a.i a.j c.any.ensures.ran (cc) (λ x b q k. search (rules, tests))
