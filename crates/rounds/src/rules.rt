@@ -27,12 +27,10 @@ fn agreed(tab: &[u64], numbers: &[u32], from: usize, n: u32) -> u64
         return 0;
     }
     let x = value_at(tab, numbers, from, 0);
-    let mut i = 0;
-    while i < n {
+    for i in 0..n {
         if value_at(tab, numbers, from, i) != x {
             return 0;
         }
-        i += 1;
     }
     x
 }
@@ -41,10 +39,7 @@ fn agreed(tab: &[u64], numbers: &[u32], from: usize, n: u32) -> u64
 fn learn(tab: &mut [u64], v: u32, x: u64) -> bool
     ensures { pass_of tab.new result ≡ learnt tab.old v x }
 {
-    if get(tab, v as usize) != 0 {
-        return false;
-    }
-    if x == 0 {
+    if get(tab, v as usize) != 0 || x == 0 {
         return false;
     }
     put(tab, v as usize, x);
@@ -55,10 +50,7 @@ fn learn(tab: &mut [u64], v: u32, x: u64) -> bool
 fn is_turn(own: bool, reg: u32) -> bool
     ensures { result ≡ turn_of own reg }
 {
-    if own {
-        return reg == RSP;
-    }
-    reg != RSP
+    (reg == RSP) == own
 }
 
 // Phi i, whose inputs begin at `first`.

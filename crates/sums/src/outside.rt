@@ -42,12 +42,10 @@ pub fn refused7(tab: &[u64], f: &[u8], t: u32, numbers: &[u32]) -> bool
 {
     let exprs = places_of(f).exprs;
     let n = size_of(f, EXPRESSIONS);
-    let mut i = 0;
-    while i < n {
+    for i in 0..n {
         if sum_outside(tab, f, t, numbers, exprs, i) {
             return true;
         }
-        i += 1;
     }
     false
 }

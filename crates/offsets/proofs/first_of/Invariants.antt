@@ -7,6 +7,3 @@ use Rattle.offsets.proofs.first_of.Given as goal
 
 abbrev pub invariant-loop-i : goal.invariant-loop-i
 invariant-loop-i l = (first_of l.keys l.k ≡ l.i + first_of (drop l.i l.keys) l.k) × (l.i ≤ length l.keys)
-
-abbrev pub decreases-loop-i : goal.decreases-loop-i
-decreases-loop-i l = length l.keys - l.i

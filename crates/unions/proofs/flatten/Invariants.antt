@@ -8,6 +8,3 @@ use Rattle.unions.proofs.flatten.Given as goal
 
 abbrev pub invariant-loop-i : goal.invariant-loop-i
 invariant-loop-i l = ((j : ℕ) → j < l.i → at l.roots j ≡ root_at l.keys l.roots j) × (l.i ≤ length l.roots) × (length l.roots ≡ length l.initial.roots) × (roots_of l.keys l.roots ≡ roots_of l.keys l.initial.roots)
-
-abbrev pub decreases-loop-i : goal.decreases-loop-i
-decreases-loop-i l = length l.roots - l.i

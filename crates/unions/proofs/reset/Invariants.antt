@@ -7,6 +7,3 @@ use Rattle.unions.proofs.reset.Given as goal
 
 abbrev pub invariant-loop-i : goal.invariant-loop-i
 invariant-loop-i l = ((j : ℕ) → j < l.i → at l.roots j ≡ j) × (l.i ≤ length l.roots) × (length l.roots ≡ length l.initial.roots)
-
-abbrev pub decreases-loop-i : goal.decreases-loop-i
-decreases-loop-i l = length l.roots - l.i

@@ -7,6 +7,3 @@ use Rattle.rounds.proofs.rules.agreed.Given as goal
 
 abbrev pub invariant-loop-i : goal.invariant-loop-i
 invariant-loop-i l = (agreed_by (value_at l.tab l.numbers l.from) l.n ≡ agree_from (value_at l.tab l.numbers l.from) l.x l.i (l.n - l.i)) × (l.i ≤ l.n)
-
-abbrev pub decreases-loop-i : goal.decreases-loop-i
-decreases-loop-i l = l.n - l.i
