@@ -55,7 +55,7 @@ fn phis_round(
     let mut first = input;
     for i in 0..n {
         let c = phi_step(tab, f, numbers, places, own, from + i, first);
-        changed = changed || c;
+        changed |= c;
         first += phi_inputs(f, from + i);
     }
     Phis {
@@ -84,7 +84,7 @@ fn stmts_round(
     let mut changed = false;
     for i in 0..n {
         let c = stmt_step(tab, f, t, numbers, places, own, from + i);
-        changed = changed || c;
+        changed |= c;
     }
     changed
 }
@@ -113,7 +113,7 @@ fn block_round(
         phi: w.phi + n,
         input: p.input,
         stmt: w.stmt + m,
-        changed: p.changed || c,
+        changed: p.changed | c,
     }
 }
 
@@ -141,7 +141,7 @@ pub fn round_of(
     };
     for b in 0..n {
         w = block_round(tab, f, t, numbers, places, own, b, w);
-        changed = changed || w.changed;
+        changed |= w.changed;
     }
     changed
 }

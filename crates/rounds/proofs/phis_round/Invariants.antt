@@ -3,7 +3,7 @@ use Rattle.rounds.specs.Ran.{Ran}
 use Rattle.rounds.specs.Defs.{mine, phi_defs}
 use Rattle.definition.specs.Owners.{first_input}
 use lib.ListN.{length}
-use Prim.Native.Nat.{◌+◌, ◌≤◌, ◌-◌}
+use Prim.Native.Nat.{◌+◌, ◌≤◌}
 use mathlib.Core.Path.{◌≡◌}
 use Rattle.rounds.proofs.phis_round.Given as goal
 

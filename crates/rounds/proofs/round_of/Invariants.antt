@@ -5,7 +5,7 @@ use Rattle.rounds.specs.Defs.{mine, defs_below}
 use Rattle.definition.specs.Contents.{text}
 use Rattle.definition.specs.Edition.{Edition}
 use lib.ListN.{length}
-use Prim.Native.Nat.{◌≤◌, ◌-◌}
+use Prim.Native.Nat.{◌≤◌}
 use mathlib.Core.Path.{◌≡◌}
 use Rattle.rounds.proofs.round_of.Given as goal
 

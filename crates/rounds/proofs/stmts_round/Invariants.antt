@@ -4,7 +4,7 @@ use Rattle.rounds.specs.Defs.{mine, stmt_defs}
 use Rattle.definition.specs.Contents.{text}
 use Rattle.definition.specs.Edition.{Edition}
 use lib.ListN.{length}
-use Prim.Native.Nat.{◌≤◌, ◌-◌}
+use Prim.Native.Nat.{◌≤◌}
 use mathlib.Core.Path.{◌≡◌}
 use Rattle.rounds.proofs.stmts_round.Given as goal
 
