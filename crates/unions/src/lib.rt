@@ -81,8 +81,8 @@ pub fn reset(roots: &mut [u32])
     requires { length roots.old < 4294967296 }
     ensures { roots.new ≡ range 0 (length roots.old) }
 {
-    for i in 0..roots.len() {
-        roots[i] = i as u32;
+    for (i, link) in roots.iter_mut().enumerate() {
+        *link = i as u32;
     }
 }
 
