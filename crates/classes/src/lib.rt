@@ -28,11 +28,9 @@ fn join_run(roots: &mut [u32], keys: &[u64], numbers: &[u32], a: u32, k: usize, 
     ensures { roots_of keys.now roots.new
         ≡ join_run keys.now numbers.now (roots_of keys.now roots.old) a k n }
 {
-    let mut j = 0;
-    while j < n {
+    for j in 0..n {
         let b = get(numbers, k + j as usize);
         union(roots, keys, a, b);
-        j += 1;
     }
 }
 
@@ -65,14 +63,12 @@ fn join_phis(roots: &mut [u32], f: &[u8], keys: &[u64], numbers: &[u32])
 {
     let at = places_of(f);
     let n = size_of(f, PHIS);
-    let mut i = 0;
     let mut p = at.phis;
     let mut k = at.inputs;
-    while i < n {
+    for i in 0..n {
         join_phi(roots, f, keys, numbers, i, p, k);
         p += 1;
         k += phi_inputs(f, i) as usize;
-        i += 1;
     }
 }
 
@@ -93,11 +89,9 @@ fn keep(keys: &[u64], numbers: &[u32], i: usize, x: u32) -> u32
 fn spare(roots: &mut [u32], keys: &[u64], numbers: &[u32])
     ensures { roots.new ≡ spared keys.now numbers.now roots.old }
 {
-    let mut i = 0;
-    while i < roots.len() {
+    for i in 0..roots.len() {
         let x = get(roots, i);
         roots[i] = keep(keys, numbers, i, x);
-        i += 1;
     }
 }
 

@@ -86,10 +86,8 @@ fn place_block(
     requires first_le_end { (first ≤ end) × (end ≤ size f.now statements) }
     ensures { Adds f.now (length numbers.now) (λ (E : Edition). gather (placed_at E f.now end) (range first (end - first))) places.old places.new }
 {
-    let mut i = first;
-    while i < end {
+    for i in first..end {
         place(places, f, numbers, live, phi, readers, loads, i, end);
-        i += 1;
     }
 }
 
@@ -109,11 +107,9 @@ pub fn inline(
 {
     let n = size_of(f, BLOCKS);
     let mut first: u32 = 0;
-    let mut b = 0;
-    while b < n {
+    for b in 0..n {
         let end = first + block_stmts(f, b);
         place_block(places, f, numbers, live, phi, readers, loads, first, end);
         first = end;
-        b += 1;
     }
 }

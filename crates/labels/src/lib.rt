@@ -20,12 +20,10 @@ pub fn block_of(f: &[u8], a: u64) -> u32
     ensures { result ≡ block_of f.now a }
 {
     let n = size_of(f, BLOCKS);
-    let mut b = 0;
-    while b < n {
+    for b in 0..n {
         if block_long(f, b, 0) == a {
             return b + 1;
         }
-        b += 1;
     }
     0
 }
@@ -80,11 +78,9 @@ fn label_edges(tab: &mut [u32], f: &[u8])
     ensures { tab.new ≡ visit (labelled f.now) tab.old (gather (edges_at f.now) (range 0 (size f.now blocks))) }
 {
     let n = size_of(f, BLOCKS);
-    let mut b = 0;
-    while b < n {
+    for b in 0..n {
         label_taken(tab, f, b);
         label_fall(tab, f, b);
-        b += 1;
     }
 }
 
@@ -105,10 +101,8 @@ fn label_targets(tab: &mut [u32], f: &[u8])
     ensures { tab.new ≡ visit (labelled f.now) tab.old (gather (target_at f.now) (range 0 (size f.now statements))) }
 {
     let n = size_of(f, STATEMENTS);
-    let mut i = 0;
-    while i < n {
+    for i in 0..n {
         label_target(tab, f, i);
-        i += 1;
     }
 }
 

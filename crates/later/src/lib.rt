@@ -31,12 +31,10 @@ fn memory_changed(f: &[u8], from: u32, to: u32) -> bool
     requires { from ≤ to }
     ensures { result ≡ changed f.now from (to - from) }
 {
-    let mut i = from;
-    while i < to {
+    for i in from..to {
         if changes_memory(f, i) {
             return true;
         }
-        i += 1;
     }
     false
 }

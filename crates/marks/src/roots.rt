@@ -43,12 +43,10 @@ fn mark_run(
     requires { base < 34359738368 }
     ensures { tab.new ≡ visit (classed roots.now) tab.old (slots numbers.now base (between order.now a b)) }
 {
-    let mut j = a;
-    while j < b {
+    for j in a..b {
         let n = get(order, j as usize);
         let s = get(numbers, base + n as usize);
         put(tab, get(roots, s as usize) as usize, 1);
-        j += 1;
     }
 }
 
@@ -97,9 +95,7 @@ pub fn read_roots(
 {
     let places = places_of(f);
     let n = size_of(f, STATEMENTS);
-    let mut i = 0;
-    while i < n {
+    for i in 0..n {
         mark_stmt(tab, f, t, numbers, offsets, roots, order, starts, places, i);
-        i += 1;
     }
 }

@@ -61,10 +61,8 @@ pub fn entry_reads(tab: &mut [u32], f: &[u8], numbers: &[u32], order: &[u32], st
 {
     let from = places_of(f).exprs;
     let n = size_of(f, STATEMENTS);
-    let mut i = 0;
-    while i < n {
+    for i in 0..n {
         tick_stmt(tab, f, numbers, order, starts, from, i);
-        i += 1;
     }
 }
 
@@ -73,12 +71,10 @@ pub fn params(f: &[u8], numbers: &[u32], entry: &[u32]) -> u32
     requires { Numbered f.now numbers.now }
     ensures { Counted f.now numbers.now entry.now result }
 {
-    let mut i = size_of(f, ARGS);
-    while i > 0 {
-        if get(entry, get(numbers, i as usize - 1) as usize) != 0 {
-            return i;
+    for i in (0..size_of(f, ARGS)).rev() {
+        if get(entry, get(numbers, i as usize) as usize) != 0 {
+            return i + 1;
         }
-        i -= 1;
     }
     0
 }

@@ -23,11 +23,9 @@ fn see_params(seen: &mut [u32], numbers: &[u32], roots: &[u32], n: u32)
     requires { n < 2147483648 }
     ensures { seen.new ≡ params_seen numbers.now roots.now n seen.old }
 {
-    let mut i = n;
-    while i > 0 {
-        let r = get(roots, get(numbers, i as usize - 1) as usize);
-        put(seen, r as usize, 2 * i);
-        i -= 1;
+    for i in (0..n).rev() {
+        let r = get(roots, get(numbers, i as usize) as usize);
+        put(seen, r as usize, 2 * i + 2);
     }
 }
 

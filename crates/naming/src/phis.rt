@@ -84,13 +84,11 @@ pub fn name_phis(
 {
     let mut input = w.input;
     let mut next = w.next;
-    let mut i = w.phi;
-    while i < b {
+    for i in w.phi..b {
         next = name_phi(
             names, seen, f, numbers, roots, away, order, at, i, input, next,
         );
         input += phi_inputs(f, i);
-        i += 1;
     }
     Walk {
         phi: b,

@@ -85,11 +85,9 @@ pub fn name_run(
         (map (run_spot f.now order.now run) (range a (b - a))) }
 {
     let mut next = next;
-    let mut k = a;
-    while k < b {
+    for k in a..b {
         let m = mention_at(f, order, at, run, k);
         next = name_key(names, seen, numbers, roots, away, m.place, m.value, next);
-        k += 1;
     }
     next
 }

@@ -71,10 +71,8 @@ pub fn name_blocks(
         item: 0,
         next: 1,
     };
-    let mut b = 0;
-    while b < n {
+    for b in 0..n {
         w = name_block(names, seen, f, numbers, roots, away, order, starts, p, b, w);
-        b += 1;
     }
     w.next
 }

@@ -2,12 +2,16 @@
 use mathlib.Core.Path.{◌≡◌, refl, sym, ap, ◌∙◌}
 use mathlib.Core.Bool.{Bool, true, false, not, cond, ◌&&◌}
 use mathlib.Core.List.{List, [], ◌∷◌}
-use Prim.Native.Nat.{ℕ, suc, ◌+◌, ◌≤◌, ◌<◌}
+use Prim.Native.Nat.{ℕ, ◌+◌, ◌≤◌, ◌<◌}
 use native.Mathlib.Decide.{dec_lt}
 use native.Mathlib.Omega.{arith}
 use lib.Dec.{eqb}
-use lib.ListN.{length, get_or, set, drop, replicate, length-replicate, drop_of_length-le}
-use lib.Seq.{set_out, drop-cons}
+use lib.ListN.{length, set, replicate, length-replicate}
+use lib.Seq.{set_out}
+use Rattle.std.specs.Prelude.{Option, ◌≢◌, unwrap_or}
+use Rattle.std.specs.Option.{MatchOption}
+use Rattle.std.specs.List.{AllWithin, HoldsAt}
+use Rattle.std.proofs.lemmas.Iterator.{index_from_first}
 use borrow.Author.Tests.{eqb-false, eq-eqb, ne_eqb, not-true}
 use Rattle.definition.specs.Values.{Value, value, eqv, RSP}
 use Rattle.definition.specs.Offsets.{half, Known, look}
@@ -22,30 +26,20 @@ use Rattle.values.proofs.Placed.{keyed_length}
 use Rattle.sums.specs.Ground.{Ground}
 use Rattle.values.proofs.Tables.{first_le, key_not_0, encode, numbered_at, table_write, first_is_lem, same_at, tabled_length, zeros_are}
 
--- ---- the loop for the first place
-module _ (ks : List ℕ) (k : ℕ) where
-  pub first_start : first_of ks k ≡ 0 + first_of (drop 0 ks) k
-  first_start = omega arith
+-- ---- the first place
+pub first_index : (k : ℕ) (ks : List ℕ) (r : Option ℕ)
+    → MatchOption r (AllWithin (λ x. x ≢ k) ks 0 (length ks)) (λ i. (i < length ks) × HoldsAt (λ x. x ≡ k) ks i × AllWithin (λ x. x ≢ k) ks 0 i) → first_of ks k ≡ unwrap_or r (length ks)
+unfolding first_of
+first_index k = index_from_first (λ ks. first_of ks k) (λ x. x ≡ k) (λ x. x ≢ k) none hit miss
+  where
+    none : first_of [] k ≡ 0
+    none = refl
 
-  module _ (i : ℕ) (so_far : first_of ks k ≡ i + first_of (drop i ks) k) where
-    pub first_hit : i < length ks → get_or ks i 0 ≡ k → i ≡ first_of ks k
-    unfolding first_of
-    first_hit h e =
-        let z : first_of (drop i ks) k ≡ 0 = rw (drop-cons ks i 0 h, eq-eqb (get_or ks i 0) k e) in
-        omega arith
+    hit : (x : ℕ) (xs : List ℕ) → x ≡ k → first_of (x ∷ xs) k ≡ 0
+    hit x xs e = rw (eq-eqb x k e)
 
-    pub first_turn : i < length ks → (get_or ks i 0 ≡ k → ⊥) → first_of ks k ≡ i + 1 + first_of (drop (i + 1) ks) k
-    unfolding first_of
-    first_turn h e =
-        let p : i + 1 ≡ suc i = omega arith in
-        let z : first_of (drop i ks) k ≡ suc (first_of (drop (suc i) ks) k) = rw (drop-cons ks i 0 h, ne_eqb (get_or ks i 0) k e) in
-        so_far ∙ rw (z, p) (omega arith)
-
-    pub first_end : length ks ≤ i → i ≡ first_of ks k
-    unfolding first_of
-    first_end h =
-        let z : first_of (drop i ks) k ≡ 0 = rw (drop_of_length-le ks h) in
-        omega arith
+    miss : (x : ℕ) (xs : List ℕ) → x ≢ k → first_of (x ∷ xs) k ≡ first_of xs k + 1
+    miss x xs h = rw (ne_eqb x k h) (omega arith)
 
 -- ---- the table
 -- tables of functions that agree on every value that is named

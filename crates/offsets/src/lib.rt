@@ -27,6 +27,7 @@ fn close(tab: &mut [u64], f: &[u8], t: u32, numbers: &[u32], places: Places, own
     ensures { (E : Edition) (k : List Known) → text E ≡ t → tab.old ≡ table f.now (length numbers.now) (look k)
         → tab.new ≡ table f.now (length numbers.now) (look (closure (mine own (defs_below E f.now (size f.now blocks))) k)) }
 {
+    // Rounds go on until one teaches nothing: how many there are, the file's definitions decide.
     let mut changed = true;
     while changed {
         changed = round_of(tab, f, t, numbers, places, own);
@@ -37,14 +38,7 @@ fn close(tab: &mut [u64], f: &[u8], t: u32, numbers: &[u32], places: Places, own
 fn first_of(keys: &[u64], k: u64) -> usize
     ensures { result ≡ first_of keys.now k }
 {
-    let mut i = 0;
-    while i < keys.len() {
-        if keys[i] == k {
-            return i;
-        }
-        i += 1;
-    }
-    i
+    keys.iter().position(|x| *x == k).unwrap_or(keys.len())
 }
 
 // The table of stack offsets.

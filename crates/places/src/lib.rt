@@ -30,11 +30,11 @@ pub fn places_of(f: &[u8]) -> Places
     let items = stmts + size_of(f, STATEMENTS) as usize;
     let exprs = items + size_of(f, LISTS) as usize;
     Places {
-        phis: phis,
-        inputs: inputs,
-        stmts: stmts,
-        items: items,
-        exprs: exprs,
+        phis,
+        inputs,
+        stmts,
+        items,
+        exprs,
         total: exprs + size_of(f, EXPRESSIONS) as usize,
     }
 }

@@ -27,11 +27,9 @@ fn raise_run(tab: &mut [u32], numbers: &[u32], order: &[u32], base: usize, a: u3
     requires { base < 34359738368 }
     ensures { tab.new ≡ visit raised tab.old (slots numbers.now base (between order.now a b)) }
 {
-    let mut j = a;
-    while j < b {
+    for j in a..b {
         let n = get(order, j as usize);
         raise(tab, get(numbers, base + n as usize) as usize);
-        j += 1;
     }
 }
 
@@ -65,10 +63,8 @@ pub fn live_reads(tab: &mut [u32], f: &[u8], numbers: &[u32], order: &[u32], sta
     let p = places_of(f);
     let base = p.exprs;
     let n = size_of(f, STATEMENTS);
-    let mut i = 0;
-    while i < n {
+    for i in 0..n {
         raise_stmt(tab, f, numbers, order, starts, base, i);
-        i += 1;
     }
 }
 
@@ -85,11 +81,9 @@ pub fn mark_run(
     requires { base < 34359738368 }
     ensures { tab.new ≡ visit (placed x) tab.old (slots numbers.now base (between order.now a b)) }
 {
-    let mut j = a;
-    while j < b {
+    for j in a..b {
         let n = get(order, j as usize);
         put(tab, get(numbers, base + n as usize) as usize, x);
-        j += 1;
     }
 }
 
@@ -123,10 +117,8 @@ pub fn readers(tab: &mut [u32], f: &[u8], numbers: &[u32], order: &[u32], starts
     let p = places_of(f);
     let base = p.exprs;
     let n = size_of(f, STATEMENTS);
-    let mut i = 0;
-    while i < n {
+    for i in 0..n {
         mark_stmt(tab, f, numbers, order, starts, base, i);
-        i += 1;
     }
 }
 
@@ -138,10 +130,8 @@ pub fn phi_reads(tab: &mut [u32], f: &[u8], numbers: &[u32])
     let p = places_of(f);
     let base = p.inputs;
     let n = size_of(f, INPUTS);
-    let mut k = 0;
-    while k < n {
+    for k in 0..n {
         put(tab, get(numbers, base + k as usize) as usize, 1);
-        k += 1;
     }
 }
 

@@ -13,8 +13,8 @@ use borrow.Author.Tests.{eq-eqb, ne_eqb}
 use Rattle.words.proofs.Laws.{word_small}
 use Rattle.records.proofs.Below.{sum_part}
 use Rattle.records.proofs.Parts.{owned_parts}
-use Rattle.definition.specs.Edition.{phis, inputs, statements}
-use Rattle.definition.specs.Lists.{all, range, at}
+use Rattle.definition.specs.Edition.{phis, statements}
+use Rattle.definition.specs.Lists.{all_below, all, range}
 use Rattle.definition.specs.Contents.{size, phi_word, input_at}
 use Rattle.definition.specs.Owners.{stmt_kind, stmt_field, phi_inputs, first_input}
 use Rattle.definition.specs.Values.{Value, value}
@@ -39,20 +39,36 @@ module _ (h : ℕ → ℕ) where
   unfolding agreed_by
   agree_start n x p e = let q : n - 0 ≡ n = omega arith in rw (ne_eqb n 0 p, q, e)
 
-  module _ (x n i : ℕ) where
-    turn_at : i < n → (b : Bool) → eqb (h i) x ≡ b → agree_from h x i (n - i) ≡ cond b (agree_from h x (i + 1) (n - (i + 1))) 0
-    unfolding agree_from
-    turn_at p b e = let s : n - i ≡ suc (n - (i + 1)) = omega arith in rw (s, e)
+  -- the last of one more, where the definition begins with the first
+  more_agree : (x i n : ℕ) → agree_from h x i (suc n) ≡ cond (eqb (h (i + n)) x) (agree_from h x i n) 0
+  unfolding agree_from
+  more_agree x i zero = let e : i + 0 ≡ i = omega arith in rw e
+  more_agree x i (suc n) =
+      let e : i + 1 + n ≡ i + suc n = omega arith in
+      rw (more_agree x (i + 1) n, e) (swap (eqb (h i) x) (eqb (h (i + suc n)) x) (agree_from h x (i + 1) n))
+    where
+      swap : (b c : Bool) (y : ℕ) → cond b (cond c y 0) 0 ≡ cond c (cond b y 0) 0
+      swap true c y = refl
+      swap false true y = refl
+      swap false false y = refl
 
-    pub agree_turn : (y : ℕ) → i < n → y ≡ h i → y ≡ x → agree_from h x i (n - i) ≡ agree_from h x (i + 1) (n - (i + 1))
-    agree_turn y p e q = turn_at p true (eq-eqb (h i) x (sym e ∙ q))
+  agree_below : (x n : ℕ) → agree_from h x 0 n ≡ cond (all_below n (λ (i : ℕ). eqb (h i) x)) x 0
+  unfolding agree_from all_below
+  agree_below x zero = refl
+  agree_below x (suc n) =
+      let e : 0 + n ≡ n = omega arith in
+      more_agree x 0 n ∙ rw (e, agree_below x n) (swap (eqb (h n) x) (all_below n (λ (i : ℕ). eqb (h i) x)))
+    where
+      swap : (b c : Bool) → cond b (cond c x 0) 0 ≡ cond (c && b) x 0
+      swap true true = refl
+      swap true false = refl
+      swap false true = refl
+      swap false false = refl
 
-    pub agree_off : (y z : ℕ) → i < n → y ≡ h i → (y ≡ x → ⊥) → z ≡ agree_from h x i (n - i) → 0 ≡ z
-    agree_off y z p e q w = sym (w ∙ turn_at p false (ne_eqb (h i) x (λ u. q (e ∙ u))))
-
-    pub agree_end : (z : ℕ) → n ≤ i → z ≡ agree_from h x i (n - i) → x ≡ z
-    unfolding agree_from
-    agree_end z p w = let s : n - i ≡ 0 = omega arith in sym (w ∙ rw s)
+  -- r is whether all have the first one's
+  module _ (n x : ℕ) (some : n ≡ 0 → ⊥) (first : x ≡ h 0) (r : Bool) (all : r ≡ all_below n (λ (i : ℕ). eqb (h i) x)) where
+    pub agree_both : cond r x 0 ≡ agreed_by h n
+    agree_both = let e : n - 0 ≡ n = omega arith in sym (agree_start n x some first ∙ rw e (agree_below x n ∙ rw (← all)))
 
 -- ---- what values agree on, by their places
 module _ (f : List ℕ) (k : List Known) (h : ℕ → ℕ) (r a : ℕ) where

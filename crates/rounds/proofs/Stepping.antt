@@ -1,11 +1,11 @@
 -- What each return of the functions over definitions comes to: a definition that is not this closure's, or no Assign, adds nothing; any other adds what
 -- the definition's rule derives of the table.
 use mathlib.Core.Path.{◌≡◌, refl, sym, ap, ◌∙◌}
-use mathlib.Core.Bool.{Bool, true, false, not}
+use mathlib.Core.Bool.{Bool, true, false}
 use mathlib.Core.List.{List, [], ◌∷◌, ◌++◌, map}
 use Prim.Native.Nat.{ℕ, ◌+◌, ◌<◌}
 use lib.Dec.{eqb}
-use lib.ListN.{length, get_or, set}
+use lib.ListN.{length, get_or}
 use mir.Syntax.{w8}
 use mir.Val.{Fits}
 use borrow.Author.Tests.{ne_eqb}
@@ -27,29 +27,6 @@ use Rattle.rounds.specs.Defs.{turn_of, mine, phi_defs, stmt_defs}
 use Rattle.rounds.specs.Ran.{pass_of, learnt, Ran}
 use Rattle.rounds.proofs.Agreeing.{phi_names, assign_names, phi_agreed}
 use Rattle.rounds.proofs.Running.{ran_same, learn_ran, mine_one, mine_other, mine_none, nothing_ran}
-
--- ---- whose turn it is
-pub turn_own : (own : Bool) (r : ℕ) → own ≡ true → eqb r 4 ≡ turn_of own r
-unfolding turn_of
-turn_own own r e = rw e
-
-pub turn_other : (own : Bool) (r : ℕ) → own ≡ false → not (eqb r 4) ≡ turn_of own r
-unfolding turn_of
-turn_other own r e = rw e
-
--- ---- a table's entry
-module _ (tab : List ℕ) (v x y : ℕ) (read : y ≡ at tab v) where
-  pub learnt_old : (y ≡ 0 → ⊥) → pass_of tab false ≡ learnt tab v x
-  unfolding learnt
-  learnt_old h = rw (← read, ne_eqb y 0 h)
-
-  pub learnt_none : y ≡ 0 → x ≡ 0 → pass_of tab false ≡ learnt tab v x
-  unfolding learnt
-  learnt_none z e = rw (← read, z, e)
-
-  pub learnt_new : (after : List ℕ) → y ≡ 0 → (x ≡ 0 → ⊥) → after ≡ set tab v x → pass_of after true ≡ learnt tab v x
-  unfolding learnt
-  learnt_new after z h e = rw (← read, z, ne_eqb x 0 h, e)
 
 -- ---- definitions that add nothing
 module _ (f : List ℕ) (n : ℕ) (own : Bool) (tab : List ℕ) where

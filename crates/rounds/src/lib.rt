@@ -3,7 +3,7 @@
 
 mod rules;
 
-ghost use Rattle.std.specs.Prelude.{◌≡◌, ◌||◌, ◌+◌, ◌≤◌, ◌<◌, length};
+ghost use Rattle.std.specs.Prelude.{◌≡◌, ◌+◌, ◌≤◌, ◌<◌, length};
 ghost use Rattle.definition.specs.Edition.{Edition, blocks, phis, statements};
 ghost use Rattle.definition.specs.Contents.{size, text};
 ghost use Rattle.definition.specs.Owners.{first_input};
@@ -34,15 +34,6 @@ pub struct Phis {
     pub changed: bool,
 }
 
-fn either(a: bool, b: bool) -> bool
-    ensures { result ≡ (a || b) }
-{
-    if a {
-        return true;
-    }
-    b
-}
-
 // The n phis from `from` on, whose inputs begin at `input`.
 fn phis_round(
     tab: &mut [u64],
@@ -62,16 +53,14 @@ fn phis_round(
 {
     let mut changed = false;
     let mut first = input;
-    let mut i = 0;
-    while i < n {
+    for i in 0..n {
         let c = phi_step(tab, f, numbers, places, own, from + i, first);
-        changed = either(changed, c);
+        changed |= c;
         first += phi_inputs(f, from + i);
-        i += 1;
     }
     Phis {
         input: first,
-        changed: changed,
+        changed,
     }
 }
 
@@ -93,11 +82,9 @@ fn stmts_round(
         → Ran f.now (length numbers.now) (mine own (stmt_defs E f.now from n)) tab.old tab.new result }
 {
     let mut changed = false;
-    let mut i = 0;
-    while i < n {
+    for i in 0..n {
         let c = stmt_step(tab, f, t, numbers, places, own, from + i);
-        changed = either(changed, c);
-        i += 1;
+        changed |= c;
     }
     changed
 }
@@ -126,7 +113,7 @@ fn block_round(
         phi: w.phi + n,
         input: p.input,
         stmt: w.stmt + m,
-        changed: either(p.changed, c),
+        changed: p.changed | c,
     }
 }
 
@@ -146,17 +133,15 @@ pub fn round_of(
 {
     let n = size_of(f, BLOCKS);
     let mut changed = false;
-    let mut b = 0;
     let mut w = Walk {
         phi: 0,
         input: 0,
         stmt: 0,
         changed: false,
     };
-    while b < n {
+    for b in 0..n {
         w = block_round(tab, f, t, numbers, places, own, b, w);
-        changed = either(changed, w.changed);
-        b += 1;
+        changed |= w.changed;
     }
     changed
 }

@@ -27,24 +27,19 @@ fn agreed(tab: &[u64], numbers: &[u32], from: usize, n: u32) -> u64
         return 0;
     }
     let x = value_at(tab, numbers, from, 0);
-    let mut i = 0;
-    while i < n {
-        if value_at(tab, numbers, from, i) != x {
-            return 0;
-        }
-        i += 1;
+    if (0..n).all(|i| value_at(tab, numbers, from, i) == x) {
+        x
+    } else {
+        0
     }
-    x
 }
 
 // Puts x for value v, unless it says nothing or something is known. Whether it did.
+#[tactic(auto, unfolding(crate::specs::Ran::learnt))]
 fn learn(tab: &mut [u64], v: u32, x: u64) -> bool
     ensures { pass_of tab.new result ≡ learnt tab.old v x }
 {
-    if get(tab, v as usize) != 0 {
-        return false;
-    }
-    if x == 0 {
+    if get(tab, v as usize) != 0 || x == 0 {
         return false;
     }
     put(tab, v as usize, x);
@@ -52,13 +47,11 @@ fn learn(tab: &mut [u64], v: u32, x: u64) -> bool
 }
 
 // Whether a definition of this register is the closure's: RSP's own, or the others'.
+#[tactic(auto, unfolding(crate::specs::Defs::turn_of))]
 fn is_turn(own: bool, reg: u32) -> bool
     ensures { result ≡ turn_of own reg }
 {
-    if own {
-        return reg == RSP;
-    }
-    reg != RSP
+    (reg == RSP) == own
 }
 
 // Phi i, whose inputs begin at `first`.

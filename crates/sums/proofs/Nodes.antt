@@ -1,18 +1,18 @@
 -- What each return of the functions over expressions comes to, over plain numbers and lists.
 use mathlib.Core.Path.{◌≡◌, refl, sym, ap, ◌∙◌}
-use mathlib.Core.Bool.{Bool, true, false, and-false}
+use mathlib.Core.Bool.{Bool, true, false}
 use mathlib.Core.List.{List, []}
 use Prim.Native.Nat.{ℕ, zero, suc, ◌+◌, ◌≤◌, ◌<◌}
 use native.Mathlib.Omega.{arith}
-use lib.Dec.{eqb, ltb}
+use lib.Dec.{ltb}
 use lib.ListN.{length, get_or, drop, drop_of_length-le}
 use lib.Seq.{take-nil, drop-cons}
-use borrow.Author.Tests.{lt-ltb, le-ltb, ltb-true, ne_eqb}
+use borrow.Author.Tests.{ltb-true, ne_eqb}
 use Rattle.definition.specs.Words.{part}
 use Rattle.definition.specs.Contents.{offset, expr_word, expr_long}
 use Rattle.definition.specs.Lists.{at}
 use Rattle.definition.proofs.Bools.{both_true}
-use Rattle.sums.specs.Address.{value_at, single, op_byte, is_sign, signed_by, used_at, const_at, sum_at, address_at, outside_at}
+use Rattle.sums.specs.Address.{value_at, single, op_byte, signed_by, used_at, const_at, sum_at, address_at}
 
 pub value_is : (tab numbers : List ℕ) (from i v r : ℕ) → v ≡ at numbers (from + i) → r ≡ at tab v → r ≡ value_at tab numbers from i
 unfolding value_at
@@ -51,14 +51,6 @@ pub op_is : (f : List ℕ) (t n o i l r : ℕ) → o ≡ offset f t → i ≡ ex
 unfolding op_byte
 op_is f t n o i l r p q s e = e ∙ rw (p, q, s)
 
-pub sign_plus : (o : ℕ) → o ≡ 43 → true ≡ is_sign o
-unfolding is_sign
-sign_plus o e = rw e
-
-pub sign_other : (o : ℕ) → (o ≡ 43 → ⊥) → eqb o 45 ≡ is_sign o
-unfolding is_sign
-sign_other o h = rw (ne_eqb o 43 h)
-
 -- ---- an expression, whose tag g was read
 module _ (h : ℕ → ℕ) (f : List ℕ) (n g : ℕ) (tag : g ≡ expr_word f n 0) where
   pub used_yes : (r : ℕ) → g ≡ 2 → r ≡ h n → r ≡ used_at h f n
@@ -82,25 +74,7 @@ module _ (h : ℕ → ℕ) (f : List ℕ) (n g : ℕ) (tag : g ≡ expr_word f n
     unfolding address_at
     address_no p q = rw (← tag, ne_eqb g 2 p, ne_eqb g 3 q)
 
-    pub outside_tag : (g ≡ 3 → ⊥) → false ≡ outside_at h f t n
-    unfolding outside_at
-    outside_tag p = rw (← tag, ne_eqb g 3 p)
-
 -- ---- its children
-module _ (f : List ℕ) (n a : ℕ) (left : a ≡ expr_word f n 3) where
-  pub const_left : n ≤ a → false ≡ const_at f n
-  unfolding const_at
-  const_left h = rw (← left, le-ltb a n h)
-
-  module _ (b : ℕ) (right : b ≡ expr_word f n 4) (low : a < n) where
-    pub const_right : n ≤ b → false ≡ const_at f n
-    unfolding const_at
-    const_right h = rw (← left, ← right, le-ltb b n h) (sym (and-false (ltb a n)))
-
-    pub const_tag : (g : ℕ) → b < n → g ≡ expr_word f b 0 → eqb g 1 ≡ const_at f n
-    unfolding const_at
-    const_tag g h e = rw (← left, ← right, lt-ltb a n low, lt-ltb b n h, e)
-
 pub const_lower : (f : List ℕ) (n a : ℕ) → a ≡ expr_word f n 3 → const_at f n ≡ true → a < n
 unfolding const_at
 const_lower f n a e h = rw e (ltb-true (expr_word f n 3) n (both_true (ltb (expr_word f n 3) n) _ h).0)
@@ -116,22 +90,3 @@ module _ (h : ℕ → ℕ) (f : List ℕ) (t n : ℕ) (c : Bool) (const : c ≡ 
   unfolding sum_at
   sum_some a s o b x r e p q u w y z =
       z ∙ rw (← const, e, y, w, u, q, p)
-
-  module _ (g o : ℕ) (tag : g ≡ expr_word f n 0) (bin : g ≡ 3) (op : o ≡ op_byte f t n) where
-    pub outside_op : is_sign o ≡ false → false ≡ outside_at h f t n
-    unfolding outside_at
-    outside_op e = rw (sym tag ∙ bin, ← op, e)
-
-    module _ (sign : is_sign o ≡ true) where
-      pub outside_const : c ≡ false → false ≡ outside_at h f t n
-      unfolding outside_at
-      outside_const e = rw (sym tag ∙ bin, ← op, sign, ← const, e)
-
-      module _ (is : c ≡ true) (a s : ℕ) (left : a ≡ expr_word f n 3) (base : s ≡ used_at h f a) where
-        pub outside_base : s ≡ 0 → false ≡ outside_at h f t n
-        unfolding outside_at
-        outside_base e = rw (sym tag ∙ bin, ← op, sign, ← const, is, ← left, ← base, e)
-
-        pub outside_sum : (x : ℕ) → (s ≡ 0 → ⊥) → x ≡ sum_at h f t n → eqb x 0 ≡ outside_at h f t n
-        unfolding outside_at
-        outside_sum x e p = rw (sym tag ∙ bin, ← op, sign, ← const, is, ← left, ← base, ne_eqb s 0 e, p)

@@ -15,23 +15,16 @@ use places::places_of;
 use records::contents::{EXPRESSIONS, expr_word, size_of};
 use records::owners::BIN;
 
+#[tactic(auto, using(crate::proofs::Nodes::const_lower), unfolding(crate::specs::Address::outside_at))]
 fn sum_outside(tab: &[u64], f: &[u8], t: u32, numbers: &[u32], exprs: usize, n: u32) -> bool
     requires { exprs + n < length numbers.now }
     ensures { result ≡ outside_at (value_at tab.now numbers.now exprs) f.now t n }
 {
-    if expr_word(f, n, 0) != BIN {
-        return false;
-    }
-    if !is_sign(op_byte(f, t, n)) {
-        return false;
-    }
-    if !const_at(f, n) {
-        return false;
-    }
-    if used_at(tab, f, numbers, exprs, expr_word(f, n, 3)) == 0 {
-        return false;
-    }
-    sum_at(tab, f, t, numbers, exprs, n) == 0
+    expr_word(f, n, 0) == BIN
+        && is_sign(op_byte(f, t, n))
+        && const_at(f, n)
+        && used_at(tab, f, numbers, exprs, expr_word(f, n, 3)) != 0
+        && sum_at(tab, f, t, numbers, exprs, n) == 0
 }
 
 // Whether some expression of the file is such a sum.
@@ -42,12 +35,10 @@ pub fn refused7(tab: &[u64], f: &[u8], t: u32, numbers: &[u32]) -> bool
 {
     let exprs = places_of(f).exprs;
     let n = size_of(f, EXPRESSIONS);
-    let mut i = 0;
-    while i < n {
+    for i in 0..n {
         if sum_outside(tab, f, t, numbers, exprs, i) {
             return true;
         }
-        i += 1;
     }
     false
 }

@@ -18,19 +18,14 @@ pub fn value_at(tab: &[u64], numbers: &[u32], from: usize, i: u32) -> u64
 }
 
 // The byte of a text that has one. A text that the file's end cuts off is as long as it is there.
+#[tactic(auto, using(crate::proofs::Nodes::byte_past, crate::proofs::Nodes::byte_none, crate::proofs::Nodes::byte_one, crate::proofs::Nodes::byte_last, crate::proofs::Nodes::byte_more))]
 fn byte_of(f: &[u8], i: usize, n: u32) -> u8
     ensures { result ≡ single (part f.now i n) }
 {
-    if f.len() <= i {
+    if n == 0 || f.len() <= i {
         return 0;
     }
-    if n == 0 {
-        return 0;
-    }
-    if n == 1 {
-        return f[i];
-    }
-    if i + 1 == f.len() {
+    if n == 1 || i + 1 == f.len() {
         return f[i];
     }
     0
@@ -58,17 +53,12 @@ pub fn used_at(tab: &[u64], f: &[u8], numbers: &[u32], exprs: usize, n: u32) -> 
 }
 
 // Whether the children of expression n are lower and the right one is a constant.
+#[tactic(auto, unfolding(crate::specs::Address::const_at))]
 pub fn const_at(f: &[u8], n: u32) -> bool
     ensures { result ≡ const_at f.now n }
 {
-    if expr_word(f, n, 3) >= n {
-        return false;
-    }
     let b = expr_word(f, n, 4);
-    if b >= n {
-        return false;
-    }
-    expr_word(f, b, 0) == CONST
+    expr_word(f, n, 3) < n && b < n && expr_word(f, b, 0) == CONST
 }
 
 pub fn sum_at(tab: &[u64], f: &[u8], t: u32, numbers: &[u32], exprs: usize, n: u32) -> u64

@@ -39,13 +39,11 @@ fn shifted(more: bool, s: u64, c: u64) -> u64
     moved(!more, s, LAST - c + 1)
 }
 
+#[tactic(auto, unfolding(crate::specs::Address::is_sign))]
 pub fn is_sign(op: u8) -> bool
     ensures { result ≡ is_sign op }
 {
-    if op == PLUS {
-        return true;
-    }
-    op == MINUS
+    op == PLUS || op == MINUS
 }
 
 // By the operator's byte.

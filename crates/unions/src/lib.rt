@@ -18,6 +18,7 @@ fn less(keys: &[u64], i: u32, j: u32) -> bool
 fn top(roots: &[u32], keys: &[u64], x: u32) -> u32
     ensures { result ≡ root_at keys.now roots.now x }
 {
+    // The loop follows links to lesser keys, a chain of no known length.
     let mut r = x;
     let mut p = get(roots, x as usize);
     while less(keys, p, r) {
@@ -32,6 +33,7 @@ fn shorten(roots: &mut [u32], keys: &[u64], x: u32, r: u32)
     requires { r ≡ root_at keys.now roots.old x }
     ensures { roots_of keys.now roots.new ≡ roots_of keys.now roots.old }
 {
+    // The loop follows the same links, and writes each behind itself.
     let mut c = x;
     let mut p = get(roots, x as usize);
     while less(keys, p, c) {
@@ -79,10 +81,8 @@ pub fn reset(roots: &mut [u32])
     requires { length roots.old < 4294967296 }
     ensures { roots.new ≡ range 0 (length roots.old) }
 {
-    let mut i = 0;
-    while i < roots.len() {
-        roots[i] = i as u32;
-        i += 1;
+    for (i, link) in roots.iter_mut().enumerate() {
+        *link = i as u32;
     }
 }
 
@@ -91,10 +91,8 @@ pub fn flatten(roots: &mut [u32], keys: &[u64])
     requires { length roots.old < 4294967296 }
     ensures { roots.new ≡ roots_of keys.now roots.old }
 {
-    let mut i = 0;
-    while i < roots.len() {
+    for i in 0..roots.len() {
         let r = top(roots, keys, i as u32);
         roots[i] = r;
-        i += 1;
     }
 }

@@ -33,10 +33,8 @@ pub fn loads(loads: &mut [u32], f: &[u8])
     ensures { Loads f.now (length loads.old) loads.new }
 {
     let n = size_of(f, EXPRESSIONS);
-    let mut i = 0;
-    while i < n {
+    for i in 0..n {
         let x = load_of(loads, f, i);
         loads[i as usize] = x;
-        i += 1;
     }
 }

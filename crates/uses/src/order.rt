@@ -52,10 +52,8 @@ fn write_stmt(order: &mut [u32], f: &[u8], i: u32, first: u32, k: usize) -> usiz
     let n = root_count(f, i);
     let b = size_of(f, EXPRESSIONS);
     let mut at = k;
-    let mut j = 0;
-    while j < n {
+    for j in 0..n {
         at = write_uses(order, f, b, root_at(f, i, first, j), at);
-        j += 1;
     }
     at
 }
@@ -68,12 +66,10 @@ pub fn order(order: &mut [u32], starts: &mut [u32], f: &[u8])
     let n = size_of(f, STATEMENTS);
     let mut first: u32 = 0;
     let mut at = 0;
-    let mut i = 0;
-    while i < n {
+    for i in 0..n {
         starts[i as usize] = at as u32;
         at = write_stmt(order, f, i, first, at);
         first += items_of(f, i) as u32;
-        i += 1;
     }
     starts[n as usize] = at as u32;
 }

@@ -6,7 +6,7 @@ use mathlib.Core.List.{List, ◌++◌, map, append_assoc}
 use Prim.Native.Nat.{ℕ, ◌+◌, ◌-◌, ◌≤◌, ◌<◌}
 use native.Mathlib.Omega.{arith}
 use lib.ListN.{length, replicate, length-append, length-replicate}
-use Rattle.definition.specs.Edition.{args, phis, inputs, statements, expressions}
+use Rattle.definition.specs.Edition.{args, phis, statements, expressions}
 use Rattle.definition.specs.Lists.{gather, range, sum_below, at}
 use Rattle.definition.specs.Contents.{size}
 use Rattle.definition.specs.Owners.{expr_items, value_items, items, phi_inputs, first_input, first_item}

@@ -22,10 +22,8 @@ fn lay_section(keys: &mut [u64], f: &[u8], s: u32, from: usize)
     ensures { keys.new ≡ laid keys.old from (map (key_at f.now s) (range 0 (size f.now s))) }
 {
     let n = size_of(f, s);
-    let mut i = 0;
-    while i < n {
+    for i in 0..n {
         put(keys, from + i as usize, key_at(f, s, i));
-        i += 1;
     }
 }
 
@@ -37,10 +35,8 @@ fn lay_phi(keys: &mut [u64], f: &[u8], i: u32, first: u32, from: usize)
     ensures { keys.new ≡ laid keys.old from (input_keys f.now i) }
 {
     let n = phi_inputs(f, i);
-    let mut j = 0;
-    while j < n {
+    for j in 0..n {
         put(keys, from + j as usize, input_key(f, i, first + j));
-        j += 1;
     }
 }
 
@@ -52,11 +48,9 @@ fn lay_inputs(keys: &mut [u64], f: &[u8], from: usize)
 {
     let n = size_of(f, PHIS);
     let mut first: u32 = 0;
-    let mut i = 0;
-    while i < n {
+    for i in 0..n {
         lay_phi(keys, f, i, first, from + first as usize);
         first += phi_inputs(f, i);
-        i += 1;
     }
 }
 
@@ -68,10 +62,8 @@ fn lay_stmt(keys: &mut [u64], f: &[u8], i: u32, first: u32, from: usize)
     ensures { keys.new ≡ laid keys.old from (item_keys f.now i) }
 {
     let n = items_of(f, i) as u32;
-    let mut j = 0;
-    while j < n {
+    for j in 0..n {
         put(keys, from + j as usize, item_key(f, i, first, j));
-        j += 1;
     }
 }
 
@@ -83,11 +75,9 @@ fn lay_items(keys: &mut [u64], f: &[u8], from: usize)
 {
     let n = size_of(f, STATEMENTS);
     let mut first: u32 = 0;
-    let mut i = 0;
-    while i < n {
+    for i in 0..n {
         lay_stmt(keys, f, i, first, from + first as usize);
         first += items_of(f, i) as u32;
-        i += 1;
     }
 }
 

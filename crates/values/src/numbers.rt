@@ -10,6 +10,7 @@ use zeros::clear;
 fn walk(keys: &[u64], next: &[u32], top: u32, k: u64) -> u32
     ensures { result ≡ walked keys.now next.now k top }
 {
+    // The loop follows links: each leads to a lower place, but by any step, so that there is no range to count through.
     let mut x = top;
     while x > 0 {
         let here = x as usize - 1;
@@ -51,10 +52,8 @@ fn number_all(numbers: &mut [u32], heads: &mut [u32], next: &mut [u32], keys: &[
     requires numbers_len { (length numbers.old ≡ length keys.now) × (length keys.now ≤ length next.old) × (length keys.now < 4294967296) × (0 < length heads.old) }
     ensures { numbers.new ≡ numbers_of keys.now }
 {
-    let mut i = 0;
-    while i < keys.len() {
+    for i in 0..keys.len() {
         put(numbers, i, number(heads, next, keys, i));
-        i += 1;
     }
 }
 

@@ -12,6 +12,3 @@ use Rattle.classes.proofs.join_phis.Given as goal
 abbrev pub invariant-loop-i : goal.invariant-loop-i
 invariant-loop-i l = (join_phis l.f l.keys l.numbers (roots_of l.keys l.initial.roots) 0 (size l.f phis) ≡ join_phis l.f l.keys l.numbers (roots_of l.keys l.roots) l.i (l.n - l.i)) × (l.i ≤ l.n)
     × (length l.roots ≡ length l.initial.roots) × Given l.f l.keys l.numbers (length l.roots) × Standing l.f l.i l.p l.k
-
-abbrev pub decreases-loop-i : goal.decreases-loop-i
-decreases-loop-i l = l.n - l.i

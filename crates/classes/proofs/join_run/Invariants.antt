@@ -8,6 +8,3 @@ use Rattle.classes.proofs.join_run.Given as goal
 
 abbrev pub invariant-loop-j : goal.invariant-loop-j
 invariant-loop-j l = (join_run l.keys l.numbers (roots_of l.keys l.initial.roots) l.a l.k l.n ≡ join_run l.keys l.numbers (roots_of l.keys l.roots) l.a (l.k + l.j) (l.n - l.j)) × (l.j ≤ l.n) × (length l.roots ≡ length l.initial.roots)
-
-abbrev pub decreases-loop-j : goal.decreases-loop-j
-decreases-loop-j l = l.n - l.j

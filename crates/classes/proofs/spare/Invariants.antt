@@ -7,6 +7,3 @@ use Rattle.classes.proofs.spare.Given as goal
 
 abbrev pub invariant-loop-i : goal.invariant-loop-i
 invariant-loop-i l = Sparing l.keys l.numbers l.initial.roots l.roots l.i × (l.i ≤ length l.roots) × (length l.roots ≡ length l.initial.roots)
-
-abbrev pub decreases-loop-i : goal.decreases-loop-i
-decreases-loop-i l = length l.roots - l.i

@@ -11,6 +11,3 @@ use Rattle.inline.proofs.inline.Given as goal
 
 abbrev pub invariant-loop-b : goal.invariant-loop-b
 invariant-loop-b l = (Adds l.f (length l.numbers) (λ (E : Edition). gather (placed_in E l.f) (range 0 (l.b - 0))) l.initial.places l.places) × (l.first ≡ first_stmt l.f l.b) × (l.n ≡ size l.f blocks) × (l.b ≤ l.n) × (length l.places ≡ length l.initial.places)
-
-abbrev pub decreases-loop-b : goal.decreases-loop-b
-decreases-loop-b l = l.n - l.b

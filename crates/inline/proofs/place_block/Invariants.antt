@@ -9,6 +9,3 @@ use Rattle.inline.proofs.place_block.Given as goal
 
 abbrev pub invariant-loop-i : goal.invariant-loop-i
 invariant-loop-i l = (Adds l.f (length l.numbers) (λ (E : Edition). gather (placed_at E l.f l.end) (range l.first (l.i - l.first))) l.initial.places l.places) × (l.first ≤ l.i) × (l.i ≤ l.end) × (length l.places ≡ length l.initial.places)
-
-abbrev pub decreases-loop-i : goal.decreases-loop-i
-decreases-loop-i l = l.end - l.i

@@ -6,6 +6,3 @@ use Rattle.labels.proofs.block_of.Given as goal
 
 abbrev pub invariant-loop-b : goal.invariant-loop-b
 invariant-loop-b l = block_of l.f l.a ≡ found_from (start_at l.f) l.a l.b (l.n - l.b)
-
-abbrev pub decreases-loop-b : goal.decreases-loop-b
-decreases-loop-b l = l.n - l.b

@@ -11,6 +11,3 @@ use Rattle.labels.proofs.label_edges.Given as goal
 
 abbrev pub invariant-loop-b : goal.invariant-loop-b
 invariant-loop-b l = (visit (labelled l.f) l.initial.tab (gather (edges_at l.f) (range 0 (size l.f blocks))) ≡ visit (labelled l.f) l.tab (gather (edges_at l.f) (range l.b (l.n - l.b)))) × (l.n ≡ size l.f blocks) × (length l.tab ≡ length l.initial.tab)
-
-abbrev pub decreases-loop-b : goal.decreases-loop-b
-decreases-loop-b l = l.n - l.b

@@ -11,6 +11,3 @@ use Rattle.labels.proofs.label_targets.Given as goal
 
 abbrev pub invariant-loop-i : goal.invariant-loop-i
 invariant-loop-i l = (visit (labelled l.f) l.initial.tab (gather (target_at l.f) (range 0 (size l.f statements))) ≡ visit (labelled l.f) l.tab (gather (target_at l.f) (range l.i (l.n - l.i)))) × (l.n ≡ size l.f statements) × (length l.tab ≡ length l.initial.tab)
-
-abbrev pub decreases-loop-i : goal.decreases-loop-i
-decreases-loop-i l = l.n - l.i

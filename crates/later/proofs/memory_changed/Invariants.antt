@@ -6,6 +6,3 @@ use Rattle.later.proofs.memory_changed.Given as goal
 
 abbrev pub invariant-loop-i : goal.invariant-loop-i
 invariant-loop-i l = (changed l.f l.from (l.to - l.from) ≡ changed l.f l.i (l.to - l.i)) × (l.i ≤ l.to)
-
-abbrev pub decreases-loop-i : goal.decreases-loop-i
-decreases-loop-i l = l.to - l.i

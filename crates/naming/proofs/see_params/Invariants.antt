@@ -7,6 +7,3 @@ use Rattle.naming.proofs.see_params.Given as goal
 
 abbrev pub invariant-loop-i : goal.invariant-loop-i
 invariant-loop-i l = (params_seen l.numbers l.roots l.n l.initial.seen ≡ params_seen l.numbers l.roots l.i l.seen) × (l.i ≤ l.n) × (length l.seen ≡ length l.initial.seen)
-
-abbrev pub decreases-loop-i : goal.decreases-loop-i
-decreases-loop-i l = l.i

@@ -1,16 +1,12 @@
-use Rattle.offsets.proofs.Beginning.{first_start, first_hit, first_turn, first_end}
-use native.Mathlib.Omega.{arith}
-use Prim.Native.Nat.{◌-◌}
+-- The search ends at the first place that has the key, and without one the length is the answer: the definition's count of what stands before.
+use Rattle.std.proofs.Common.{◌≡◌, ◌≢◌, ◌∙◌, sym, rules}
+use borrow.Author.Tests.{tests}
+use Rattle.std.proofs.lemmas.Iterator.{IsFirst-from_position, YieldsList-from_slice}
+use Rattle.offsets.proofs.Beginning.{first_index}
 use Rattle.offsets.proofs.first_of.Goals as goal
 
-pub loop-i-init : goal.loop-i-init
-loop-i-init c = (first_start _ _, omega arith)
-
-pub returns-then-keys-i : goal.returns-then-keys-i
-returns-then-keys-i c = first_hit _ _ _ c.loop-i.invariant.0 c.loop-i-test.true c.if-keys-i.true
-
-pub loop-i-preserved : goal.loop-i-preserved
-loop-i-preserved c = (first_turn _ _ _ c.loop-i.invariant.0 c.loop-i-test.true c.if-keys-i.false, omega arith)
-
 pub returns : goal.returns
-returns c = first_end _ _ _ c.loop-i.invariant.0 c.loop-i-test.false
+returns c =
+    c.unwrap_or.ensures
+    ∙ sym (first_index _ _ _
+    (IsFirst-from_position _ _ _ (λ x. x ≡ c.args.k) (λ x. x ≢ c.args.k) c.position.ensures.ran (YieldsList-from_slice c.args.keys.now cc) (λ x q k. search (rules, tests)) (λ x q k. search (rules, tests))))

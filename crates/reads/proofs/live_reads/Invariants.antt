@@ -11,6 +11,3 @@ use Rattle.reads.proofs.live_reads.Given as goal
 
 abbrev pub invariant-loop-i : goal.invariant-loop-i
 invariant-loop-i l = (visit raised l.initial.tab (slots l.numbers l.base (live_from l.f 0 (size l.f statements))) ≡ visit raised l.tab (slots l.numbers l.base (live_from l.f l.i (l.n - l.i)))) × (l.n ≡ size l.f statements) × (l.base ≡ (places_of l.f).exprs) × (length l.tab ≡ length l.initial.tab)
-
-abbrev pub decreases-loop-i : goal.decreases-loop-i
-decreases-loop-i l = l.n - l.i

@@ -7,6 +7,3 @@ use Rattle.reads.proofs.mark_run.Given as goal
 
 abbrev pub invariant-loop-j : goal.invariant-loop-j
 invariant-loop-j l = (visit (placed l.x) l.initial.tab (slots l.numbers l.base (between l.order l.a l.b)) ≡ visit (placed l.x) l.tab (slots l.numbers l.base (between l.order l.j l.b))) × (length l.tab ≡ length l.initial.tab)
-
-abbrev pub decreases-loop-j : goal.decreases-loop-j
-decreases-loop-j l = l.b - l.j

@@ -11,6 +11,3 @@ use Rattle.reads.proofs.phi_reads.Given as goal
 
 abbrev pub invariant-loop-k : goal.invariant-loop-k
 invariant-loop-k l = (visit (placed 1) l.initial.tab (slots l.numbers l.base (range 0 (l.n - 0))) ≡ visit (placed 1) l.tab (slots l.numbers l.base (range l.k (l.n - l.k)))) × (l.n ≡ size l.f inputs) × (l.base ≡ (places_of l.f).inputs) × (length l.tab ≡ length l.initial.tab)
-
-abbrev pub decreases-loop-k : goal.decreases-loop-k
-decreases-loop-k l = l.n - l.k

@@ -11,6 +11,3 @@ use Rattle.reads.proofs.readers.Given as goal
 
 abbrev pub invariant-loop-i : goal.invariant-loop-i
 invariant-loop-i l = (l.tab ≡ table l.f (length l.numbers) (reader_below l.f l.i)) × (l.n ≡ size l.f statements) × (l.base ≡ (places_of l.f).exprs) × (l.i ≤ l.n) × (length l.tab ≡ length l.initial.tab)
-
-abbrev pub decreases-loop-i : goal.decreases-loop-i
-decreases-loop-i l = l.n - l.i

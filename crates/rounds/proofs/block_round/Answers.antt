@@ -3,7 +3,7 @@ use Rattle.rounds.proofs.Walking.{walk_phis, walk_stmts, walk_input, before_next
 use Rattle.rounds.proofs.Running.{block_ran}
 use Rattle.records.proofs.Items.{size_small}
 use native.Mathlib.Omega.{arith}
-use mathlib.Core.Path.{◌∙◌}
+use mathlib.Core.Path.{refl, ◌∙◌}
 use Rattle.rounds.proofs.block_round.Goals as goal
 
 pub phis_round-p-requires : goal.phis_round-p-requires
@@ -19,4 +19,4 @@ pub overflow_add-result-2 : goal.overflow_add-result-2
 overflow_add-result-2 c = let p = c.requires in omega (arith, walk_stmts _ p.ground.counts _ _ p.b_bound.0 p.b_bound.1 _ c.block_stmts-m.ensures, size_small c.args.f.now c.type_inv.f 4)
 
 pub returns : goal.returns
-returns c = let p = c.requires in (before_next _ _ _ _ _ _ _ p.b_bound.1 c.block_phis-n.ensures c.block_stmts-m.ensures c.phis_round-p.ensures.0, λ E s. block_ran _ _ _ E _ _ _ _ _ _ _ _ _ _ _ p.b_bound.1.phi p.b_bound.1.stmt c.block_phis-n.ensures c.block_stmts-m.ensures c.either.ensures c.phis_round-p.ensures.1 (c.stmts_round-c.ensures E s))
+returns c = let p = c.requires in (before_next _ _ _ _ _ _ _ p.b_bound.1 c.block_phis-n.ensures c.block_stmts-m.ensures c.phis_round-p.ensures.0, λ E s. block_ran _ _ _ E _ _ _ _ _ _ _ _ _ _ _ p.b_bound.1.phi p.b_bound.1.stmt c.block_phis-n.ensures c.block_stmts-m.ensures refl c.phis_round-p.ensures.1 (c.stmts_round-c.ensures E s))

@@ -4,7 +4,6 @@ use Rattle.rounds.specs.Defs.{phi_defs}
 use Rattle.records.proofs.Items.{size_small}
 use Rattle.definition.specs.Lists.{range}
 use native.Mathlib.Omega.{arith}
-use Prim.Native.Nat.{◌-◌}
 use mathlib.Core.Path.{refl, ◌∙◌}
 use Rattle.rounds.proofs.phis_round.Goals as goal
 
@@ -25,7 +24,7 @@ pub overflow_add-first : goal.overflow_add-first
 overflow_add-first c = omega (arith, inputs_small _ c.requires.ground.counts c.type_inv.f _ _ _ (within _ _ _ _ c.loop-i-test.true c.requires.n_bound.0) c.loop-i.invariant.2 c.phi_inputs-first.ensures)
 
 pub loop-i-preserved : goal.loop-i-preserved
-loop-i-preserved c = (omega arith, c.phi_step-c.auto.tab ∙ c.loop-i.invariant.1, inputs_turn _ _ _ _ _ c.loop-i.invariant.2 c.phi_inputs-first.ensures, both_ran _ _ _ _ _ _ _ _ _ _ _ _ (phis_parts _ _ _) c.either-changed.ensures c.loop-i.invariant.3 c.phi_step-c.ensures)
+loop-i-preserved c = (omega arith, c.phi_step-c.auto.tab ∙ c.loop-i.invariant.1, inputs_turn _ _ _ _ _ c.loop-i.invariant.2 c.phi_inputs-first.ensures, both_ran _ _ _ _ _ _ _ _ _ _ _ _ (phis_parts _ _ _) refl c.loop-i.invariant.3 c.phi_step-c.ensures)
 
 pub returns : goal.returns
 returns c = (inputs_end _ _ _ _ _ c.loop-i.invariant.0 c.loop-i-test.false c.loop-i.invariant.2, all_ran _ _ _ (phi_defs _ _) _ _ _ _ _ _ c.loop-i.invariant.0 c.loop-i-test.false refl c.loop-i.invariant.3)

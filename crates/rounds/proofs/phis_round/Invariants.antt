@@ -3,12 +3,9 @@ use Rattle.rounds.specs.Ran.{Ran}
 use Rattle.rounds.specs.Defs.{mine, phi_defs}
 use Rattle.definition.specs.Owners.{first_input}
 use lib.ListN.{length}
-use Prim.Native.Nat.{◌+◌, ◌≤◌, ◌-◌}
+use Prim.Native.Nat.{◌+◌, ◌≤◌}
 use mathlib.Core.Path.{◌≡◌}
 use Rattle.rounds.proofs.phis_round.Given as goal
 
 abbrev pub invariant-loop-i : goal.invariant-loop-i
 invariant-loop-i l = (l.i ≤ l.n) × (length l.tab ≡ length l.initial.tab) × (l.first ≡ first_input l.f (l.from + l.i)) × Ran l.f (length l.numbers) (mine l.own (phi_defs l.f l.from l.i)) l.initial.tab l.tab l.changed
-
-abbrev pub decreases-loop-i : goal.decreases-loop-i
-decreases-loop-i l = l.n - l.i

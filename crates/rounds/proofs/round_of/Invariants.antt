@@ -5,12 +5,9 @@ use Rattle.rounds.specs.Defs.{mine, defs_below}
 use Rattle.definition.specs.Contents.{text}
 use Rattle.definition.specs.Edition.{Edition}
 use lib.ListN.{length}
-use Prim.Native.Nat.{◌≤◌, ◌-◌}
+use Prim.Native.Nat.{◌≤◌}
 use mathlib.Core.Path.{◌≡◌}
 use Rattle.rounds.proofs.round_of.Given as goal
 
 abbrev pub invariant-loop-b : goal.invariant-loop-b
 invariant-loop-b l = (l.b ≤ l.n) × (length l.tab ≡ length l.initial.tab) × Before l.f l.b l.w × ((E : Edition) → text E ≡ l.t → Ran l.f (length l.numbers) (mine l.own (defs_below E l.f l.b)) l.initial.tab l.tab l.changed)
-
-abbrev pub decreases-loop-b : goal.decreases-loop-b
-decreases-loop-b l = l.n - l.b

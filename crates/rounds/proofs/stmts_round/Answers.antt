@@ -4,7 +4,6 @@ use Rattle.rounds.specs.Defs.{stmt_defs}
 use Rattle.records.proofs.Items.{size_small}
 use Rattle.definition.specs.Lists.{gather, range}
 use native.Mathlib.Omega.{arith}
-use Prim.Native.Nat.{◌-◌}
 use mathlib.Core.Path.{refl, ◌∙◌}
 use Rattle.rounds.proofs.stmts_round.Goals as goal
 
@@ -19,7 +18,7 @@ pub stmt_step-c-requires : goal.stmt_step-c-requires
 stmt_step-c-requires c = record { ground = c.requires.ground; tab_len = c.loop-i.invariant.1 ∙ c.requires.tab_len; i_bound = within _ _ _ _ c.loop-i-test.true c.requires.n_bound }
 
 pub loop-i-preserved : goal.loop-i-preserved
-loop-i-preserved c = (omega arith, c.stmt_step-c.auto.tab ∙ c.loop-i.invariant.1, λ E s. both_ran _ _ _ _ _ _ _ _ _ _ _ _ (stmts_parts E _ _ _) c.either-changed.ensures (c.loop-i.invariant.2 E s) (c.stmt_step-c.ensures E s))
+loop-i-preserved c = (omega arith, c.stmt_step-c.auto.tab ∙ c.loop-i.invariant.1, λ E s. both_ran _ _ _ _ _ _ _ _ _ _ _ _ (stmts_parts E _ _ _) refl (c.loop-i.invariant.2 E s) (c.stmt_step-c.ensures E s))
 
 pub returns : goal.returns
 returns c = λ E s. all_ran _ _ _ (stmt_defs E _ _) _ _ _ _ _ _ c.loop-i.invariant.0 c.loop-i-test.false refl (c.loop-i.invariant.2 E s)

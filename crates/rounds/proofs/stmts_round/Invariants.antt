@@ -4,12 +4,9 @@ use Rattle.rounds.specs.Defs.{mine, stmt_defs}
 use Rattle.definition.specs.Contents.{text}
 use Rattle.definition.specs.Edition.{Edition}
 use lib.ListN.{length}
-use Prim.Native.Nat.{◌≤◌, ◌-◌}
+use Prim.Native.Nat.{◌≤◌}
 use mathlib.Core.Path.{◌≡◌}
 use Rattle.rounds.proofs.stmts_round.Given as goal
 
 abbrev pub invariant-loop-i : goal.invariant-loop-i
 invariant-loop-i l = (l.i ≤ l.n) × (length l.tab ≡ length l.initial.tab) × ((E : Edition) → text E ≡ l.t → Ran l.f (length l.numbers) (mine l.own (stmt_defs E l.f l.from l.i)) l.initial.tab l.tab l.changed)
-
-abbrev pub decreases-loop-i : goal.decreases-loop-i
-decreases-loop-i l = l.n - l.i

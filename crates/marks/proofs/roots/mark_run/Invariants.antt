@@ -8,6 +8,3 @@ use Rattle.marks.proofs.roots.mark_run.Given as goal
 
 abbrev pub invariant-loop-j : goal.invariant-loop-j
 invariant-loop-j l = (visit (classed l.roots) l.initial.tab (slots l.numbers l.base (between l.order l.a l.b)) ≡ visit (classed l.roots) l.tab (slots l.numbers l.base (between l.order l.j l.b))) × (length l.tab ≡ length l.initial.tab)
-
-abbrev pub decreases-loop-j : goal.decreases-loop-j
-decreases-loop-j l = l.b - l.j

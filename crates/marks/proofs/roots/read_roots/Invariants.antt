@@ -15,6 +15,3 @@ use Rattle.marks.proofs.roots.read_roots.Given as goal
 
 abbrev pub invariant-loop-i : goal.invariant-loop-i
 invariant-loop-i l = ((E : Edition) (k : List Known) → text E ≡ l.t → l.offsets ≡ table l.f (length l.numbers) (look k) → visit (classed l.roots) l.initial.tab (gather (λ (j : ℕ). slots l.numbers (places_of l.f).exprs (reading E l.f k j)) (range 0 (size l.f statements))) ≡ visit (classed l.roots) l.tab (gather (λ (j : ℕ). slots l.numbers (places_of l.f).exprs (reading E l.f k j)) (range l.i (l.n - l.i)))) × (l.n ≡ size l.f statements) × (l.places ≡ places_of l.f) × (length l.tab ≡ length l.initial.tab)
-
-abbrev pub decreases-loop-i : goal.decreases-loop-i
-decreases-loop-i l = l.n - l.i

@@ -11,6 +11,3 @@ use Rattle.names.proofs.entry.entry_reads.Given as goal
 
 abbrev pub invariant-loop-i : goal.invariant-loop-i
 invariant-loop-i l = (ticked l.numbers l.initial.tab (gather (entry_spots l.f) (range 0 (size l.f statements))) ≡ ticked l.numbers l.tab (gather (entry_spots l.f) (range l.i (l.n - l.i)))) × (l.n ≡ size l.f statements) × (l.from ≡ (places_of l.f).exprs) × (length l.tab ≡ length l.initial.tab)
-
-abbrev pub decreases-loop-i : goal.decreases-loop-i
-decreases-loop-i l = l.n - l.i

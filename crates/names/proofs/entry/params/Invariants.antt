@@ -9,6 +9,3 @@ use Rattle.names.proofs.entry.params.Given as goal
 
 abbrev pub invariant-loop-i : goal.invariant-loop-i
 invariant-loop-i l = (up_to (is_read l.numbers l.entry) (size l.f args) ≡ up_to (is_read l.numbers l.entry) l.i) × (l.i ≤ size l.f args)
-
-abbrev pub decreases-loop-i : goal.decreases-loop-i
-decreases-loop-i l = l.i

@@ -10,6 +10,3 @@ use Rattle.naming.proofs.runs.name_run.Given as goal
 
 abbrev pub invariant-loop-k : goal.invariant-loop-k
 invariant-loop-k l = (walked (known l.numbers l.roots l.away) (state l.initial.names l.initial.seen l.next-2) (map (run_spot l.f l.order l.run) (range l.a (l.b - l.a))) ≡ walked (known l.numbers l.roots l.away) (state l.names l.seen l.next) (map (run_spot l.f l.order l.run) (range l.k (l.b - l.k)))) × (length l.names ≡ length l.initial.names) × (length l.seen ≡ length l.initial.seen)
-
-abbrev pub decreases-loop-k : goal.decreases-loop-k
-decreases-loop-k l = l.b - l.k

@@ -14,6 +14,3 @@ use Rattle.naming.proofs.walk.name_blocks.Given as goal
 
 abbrev pub invariant-loop-b : goal.invariant-loop-b
 invariant-loop-b l = (walked (known l.numbers l.roots l.away) (state l.initial.names l.initial.seen 1) (spots l.f) ≡ walked (known l.numbers l.roots l.away) (state l.names l.seen l.w.next) (gather (block_spots l.f) (range l.b (l.n - l.b)))) × (l.w ≡ standing l.f (first_phi l.f l.b) (first_stmt l.f l.b) l.w.next) × (l.n ≡ size l.f blocks) × (l.p ≡ places_of l.f) × (length l.names ≡ length l.initial.names) × (length l.seen ≡ length l.initial.seen)
-
-abbrev pub decreases-loop-b : goal.decreases-loop-b
-decreases-loop-b l = l.n - l.b

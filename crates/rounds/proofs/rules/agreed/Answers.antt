@@ -1,27 +1,24 @@
-use Rattle.rounds.proofs.Agreeing.{agree_none, agree_start, agree_turn, agree_off, agree_end}
+-- None agree on nothing; else what is agreed is the first one's, where all have it.
+use Rattle.std.proofs.Common.{◌≡◌, Bool, ℕ, ◌∙◌, ap, sym, nat_eq, rules}
+use mathlib.Core.Bool.{cond}
+use borrow.Author.Tests.{tests}
+use Rattle.definition.specs.Lists.{all_below}
+use Rattle.records.proofs.Below.{all_upto}
 use Rattle.sums.specs.Address.{value_at}
-use native.Mathlib.Omega.{arith}
-use Prim.Native.Nat.{◌-◌}
-use mathlib.Core.Path.{◌∙◌}
+use Rattle.rounds.proofs.Agreeing.{agree_none, agree_both}
 use Rattle.rounds.proofs.rules.agreed.Goals as goal
+use Rattle.rounds.proofs.rules.agreed.Goals.{After-all}
 
 pub returns-then-n-eq0 : goal.returns-then-n-eq0
 returns-then-n-eq0 c = agree_none _ _ c.if-n-eq0.true
 
-pub value_at-x-requires : goal.value_at-x-requires
-value_at-x-requires c = omega (arith, c.requires, c.if-n-eq0.false)
+tested : (c : After-all) → c.all.result ≡ all_below c.args.n (λ (i : ℕ). nat_eq (value_at c.args.tab.now c.args.numbers.now c.args.from i) c.value_at-x.result)
+tested c = all_upto (λ (i : ℕ). nat_eq (value_at c.args.tab.now c.args.numbers.now c.args.from i) c.value_at-x.result) c.args.n c.all.ensures.ran (cc) (λ x b q k. search (rules, tests))
 
-pub loop-i-init : goal.loop-i-init
-loop-i-init c = (agree_start _ _ _ c.if-n-eq0.false c.value_at-x.ensures, omega arith)
+pub returns-then-all : goal.returns-then-all
+returns-then-all c =
+    ap (λ (b : Bool). cond b c.value_at-x.result 0) (sym c.if-all.true) ∙ agree_both _ _ _ c.if-n-eq0.false c.value_at-x.ensures _ (tested (goal.at.returns-then-all c).After-all)
 
-pub value_at-requires : goal.value_at-requires
-value_at-requires c = omega (arith, c.requires)
-
-pub returns-then-value_at-x : goal.returns-then-value_at-x
-returns-then-value_at-x c = agree_off _ _ _ _ _ _ c.loop-i-test.true c.value_at.ensures c.if-value_at-x.true c.loop-i.invariant.0
-
-pub loop-i-preserved : goal.loop-i-preserved
-loop-i-preserved c = (c.loop-i.invariant.0 ∙ agree_turn _ _ _ _ _ c.loop-i-test.true c.value_at.ensures c.if-value_at-x.false, omega arith)
-
-pub returns : goal.returns
-returns c = agree_end _ _ _ _ _ c.loop-i-test.false c.loop-i.invariant.0
+pub returns-else-all : goal.returns-else-all
+returns-else-all c =
+    ap (λ (b : Bool). cond b c.value_at-x.result 0) (sym c.if-all.false) ∙ agree_both _ _ _ c.if-n-eq0.false c.value_at-x.ensures _ (tested (goal.at.returns-else-all c).After-all)

@@ -1,7 +1,6 @@
 -- A phi that is not this closure's adds nothing; any other adds at its number what its inputs agree on, the definition's rule.
 use Rattle.rounds.proofs.Stepping.{phi_other, phi_ran}
 use Rattle.rounds.proofs.Agreeing.{phi_inside, inputs_inside}
-use borrow.Author.Tests.{not-true, not-false}
 use native.Mathlib.Omega.{arith}
 use Rattle.rounds.proofs.rules.phi_step.Goals as goal
 

@@ -1,7 +1,6 @@
 -- A statement that is no Assign, or not this closure's, adds nothing; any other adds its expression's offset, the definition's rule.
 use Rattle.rounds.proofs.Stepping.{stmt_none, assign_other, assign_ran}
 use Rattle.sums.proofs.Naming.{stmt_inside}
-use borrow.Author.Tests.{not-true, not-false}
 use native.Mathlib.Omega.{arith}
 use Rattle.rounds.proofs.rules.stmt_step.Goals as goal
 

@@ -1,9 +1,7 @@
-use mathlib.Core.Bool.{false}
 use mathlib.Core.Path.{◌≡◌, ◌∙◌}
 use Rattle.sums.proofs.Naming.{under, grounded, expr_inside, clear_turn, clear_hit}
 use Rattle.sums.proofs.Trees.{out_start, out_end}
 use native.Mathlib.Omega.{arith}
-use Prim.Native.Nat.{◌-◌}
 use Rattle.sums.proofs.outside.refused7.Goals as goal
 
 pub loop-i-init : goal.loop-i-init

@@ -1,6 +1,5 @@
 -- Without a constant on the right there is no sum; with one the left child is lower, so its place is inside, and the operator decides.
 use Rattle.sums.proofs.Nodes.{const_lower, sum_none, sum_some}
-use borrow.Author.Tests.{not-true, not-false}
 use native.Mathlib.Omega.{arith}
 use mathlib.Core.Path.{sym, ◌∙◌}
 use Rattle.sums.proofs.reading.sum_at.Goals as goal

@@ -9,6 +9,3 @@ use Rattle.uses.proofs.loads.loads.Given as goal
 
 abbrev pub invariant-loop-i : goal.invariant-loop-i
 invariant-loop-i l = (l.loads ≡ loaded l.f (length l.initial.loads) l.i) × (l.n ≡ size l.f expressions) × (l.i ≤ l.n) × (length l.loads ≡ length l.initial.loads)
-
-abbrev pub decreases-loop-i : goal.decreases-loop-i
-decreases-loop-i l = l.n - l.i

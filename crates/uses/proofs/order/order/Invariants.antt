@@ -11,6 +11,3 @@ use Rattle.uses.proofs.order.order.Given as goal
 
 abbrev pub invariant-loop-i : goal.invariant-loop-i
 invariant-loop-i l = (filling l.order l.at ≡ put_all (filling l.initial.order 0) (uses_before l.f l.i)) × (l.starts ≡ starts_before l.f (length l.initial.starts) l.i) × (l.first ≡ first_item l.f l.i) × (l.n ≡ size l.f statements) × (l.i ≤ l.n) × (length l.order ≡ length l.initial.order) × (length l.starts ≡ length l.initial.starts)
-
-abbrev pub decreases-loop-i : goal.decreases-loop-i
-decreases-loop-i l = l.n - l.i

@@ -12,6 +12,3 @@ use Rattle.uses.proofs.order.write_stmt.Given as goal
 
 abbrev pub invariant-loop-j : goal.invariant-loop-j
 invariant-loop-j l = (put_all (filling l.initial.order l.k) (stmt_uses l.f l.i) ≡ put_all (filling l.order l.at) (root_uses l.f l.i l.first l.j (l.n - l.j))) × (l.n ≡ root_count l.f l.i) × (l.b ≡ size l.f expressions) × (length l.order ≡ length l.initial.order)
-
-abbrev pub decreases-loop-j : goal.decreases-loop-j
-decreases-loop-j l = l.n - l.j

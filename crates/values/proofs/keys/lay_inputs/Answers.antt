@@ -1,6 +1,5 @@
 use native.Mathlib.Omega.{arith}
 use mathlib.Core.Path.{refl, sym, ◌∙◌}
-use Prim.Native.Nat.{◌-◌}
 use Rattle.definition.specs.Owners.{first_input}
 use Rattle.values.proofs.Laying.{runs_start, runs_turn, runs_end, inputs_fit}
 use Rattle.records.proofs.Below.{sum_start, sum_turn}

@@ -12,6 +12,3 @@ use Rattle.values.proofs.keys.lay_inputs.Given as goal
 
 abbrev pub invariant-loop-i : goal.invariant-loop-i
 invariant-loop-i l = (laid l.initial.keys l.from (gather (input_keys l.f) (range 0 (size l.f phis))) ≡ laid l.keys (l.from + l.first) (gather (input_keys l.f) (range l.i (l.n - l.i)))) × (l.first ≡ first_input l.f l.i) × (l.n ≡ size l.f phis) × (length l.keys ≡ length l.initial.keys)
-
-abbrev pub decreases-loop-i : goal.decreases-loop-i
-decreases-loop-i l = l.n - l.i

@@ -1,6 +1,5 @@
 use native.Mathlib.Omega.{arith}
 use mathlib.Core.Path.{refl, sym, ◌∙◌}
-use Prim.Native.Nat.{◌-◌}
 use Rattle.values.proofs.Laying.{runs_start, runs_turn, runs_end}
 use Rattle.records.proofs.Items.{first_start, first_turn, items_fit}
 use Rattle.values.proofs.Placed.{items_length}

@@ -12,6 +12,3 @@ use Rattle.values.proofs.keys.lay_items.Given as goal
 
 abbrev pub invariant-loop-i : goal.invariant-loop-i
 invariant-loop-i l = (laid l.initial.keys l.from (gather (item_keys l.f) (range 0 (size l.f statements))) ≡ laid l.keys (l.from + l.first) (gather (item_keys l.f) (range l.i (l.n - l.i)))) × (l.first ≡ first_item l.f l.i) × (l.n ≡ size l.f statements) × (length l.keys ≡ length l.initial.keys)
-
-abbrev pub decreases-loop-i : goal.decreases-loop-i
-decreases-loop-i l = l.n - l.i

@@ -1,6 +1,4 @@
 use mathlib.Core.Path.{refl, ◌∙◌}
-use Prim.Native.Nat.{◌-◌}
-use Rattle.places.specs.Keys.{input_key}
 use Rattle.values.proofs.Laying.{phi_start, lay_turn, lay_end}
 use Rattle.values.proofs.keys.lay_phi.Goals as goal
 

@@ -11,6 +11,3 @@ use Rattle.values.proofs.keys.lay_phi.Given as goal
 
 abbrev pub invariant-loop-j : goal.invariant-loop-j
 invariant-loop-j l = (laid l.initial.keys l.from (input_keys l.f l.i) ≡ laid l.keys (l.from + l.j) (map (input_key l.f l.i) (range (l.first + l.j) (l.n - l.j)))) × (l.n ≡ phi_inputs l.f l.i) × (length l.keys ≡ length l.initial.keys)
-
-abbrev pub decreases-loop-j : goal.decreases-loop-j
-decreases-loop-j l = l.n - l.j

@@ -1,7 +1,5 @@
 use native.Mathlib.Omega.{arith}
 use mathlib.Core.Path.{refl, ◌∙◌}
-use Prim.Native.Nat.{◌-◌}
-use Rattle.places.specs.Laid.{key_at}
 use Rattle.values.proofs.Laying.{lay_start, lay_turn, lay_end}
 use Rattle.values.proofs.keys.lay_section.Goals as goal
 

@@ -10,6 +10,3 @@ use Rattle.values.proofs.keys.lay_section.Given as goal
 
 abbrev pub invariant-loop-i : goal.invariant-loop-i
 invariant-loop-i l = (laid l.initial.keys l.from (map (key_at l.f l.s) (range 0 (size l.f l.s))) ≡ laid l.keys (l.from + l.i) (map (key_at l.f l.s) (range (0 + l.i) (l.n - l.i)))) × (l.n ≡ size l.f l.s) × (length l.keys ≡ length l.initial.keys)
-
-abbrev pub decreases-loop-i : goal.decreases-loop-i
-decreases-loop-i l = l.n - l.i

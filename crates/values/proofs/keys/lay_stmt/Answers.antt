@@ -1,6 +1,5 @@
 use native.Mathlib.Omega.{arith}
 use mathlib.Core.Path.{refl, ◌∙◌}
-use Prim.Native.Nat.{◌-◌}
 use Rattle.values.proofs.Laying.{stmt_start, lay_turn, lay_end}
 use Rattle.values.proofs.keys.lay_stmt.Goals as goal
 

@@ -1,6 +1,5 @@
 use native.Mathlib.Omega.{arith}
 use mathlib.Core.Path.{refl, ◌∙◌}
-use Prim.Native.Nat.{◌-◌}
 use Rattle.definition.specs.Lists.{at}
 use Rattle.values.specs.Tables.{number_of}
 use Rattle.values.proofs.Chaining.{chain_start, filled_on, numbers_done}
