@@ -1,9 +1,9 @@
--- The last marked statement, by a walk from the first on.
-use mathlib.Core.Path.{◌≡◌, sym, ap, ap₂, ◌∙◌}
+-- The last marked statement, by a walk from the last back to the first.
+use mathlib.Core.Path.{◌≡◌, sym, ap, ◌∙◌}
 use mathlib.Core.Bool.{Bool, true, false, cond}
 use mathlib.Core.Option.{Option, none, some}
 use mathlib.Core.List.{List}
-use Prim.Native.Nat.{ℕ, suc, ◌+◌, ◌-◌, ◌≤◌, ◌<◌}
+use Prim.Native.Nat.{ℕ, zero, suc, ◌+◌, ◌-◌, ◌≤◌, ◌<◌}
 use native.Mathlib.Omega.{arith}
 use Rattle.definition.specs.Lists.{range}
 use Rattle.definition.specs.Read.{marked}
@@ -11,36 +11,38 @@ use Rattle.statements.specs.Statement.{stmt_record, mark_of}
 use Rattle.statements.specs.declared.statement.Stmt.{Stmt}
 use Rattle.flags.specs.Marked.{last_marked}
 
--- ---- the mark, read off the record
-module _ (f : List ℕ) (i first : ℕ) (s : Stmt) (is : s ≡ stmt_record f i first) (b : Bool) (says : b ≡ mark_of s.marks 2) (k : Option ℕ) where
-  mark_read : b ≡ marked f i 2
-  unfolding marked mark_of stmt_record
-  mark_read = says ∙ ap (λ (x : Stmt). mark_of x.marks 2) is
+module _ (f : List ℕ) where
+  -- the last statement decides, and where it is not marked those before it
+  last_decides : (o : Option ℕ) (a n : ℕ)
+      → last_marked f o (range a (suc n)) ≡ cond (marked f (a + n) 2) (some (a + n)) (last_marked f o (range a n))
+  unfolding last_marked range
+  last_decides o a zero = let e : a + 0 ≡ a = omega arith in rw e
+  last_decides o a (suc n) =
+      let q : a + 1 + n ≡ a + suc n = omega arith in
+      let h = last_decides (cond (marked f a 2) (some a) o) (a + 1) n in
+      rw q at h
 
-  pub is_marked : b ≡ true → some i ≡ cond (marked f i 2) (some i) k
-  is_marked h = rw (← mark_read, h)
+  -- a turn with i at the place behind, of which m is what its record says of the mark
+  module _ (first count i : ℕ) (s : Stmt) (is : s ≡ stmt_record f (i - 1) 0) (m : Bool) (says : m ≡ mark_of s.marks 2) where
+    mark_read : m ≡ marked f (i - 1) 2
+    unfolding marked mark_of stmt_record
+    mark_read = says ∙ ap (λ (x : Stmt). mark_of x.marks 2) is
 
-  pub not_marked : b ≡ false → k ≡ cond (marked f i 2) (some i) k
-  not_marked h = rw (← mark_read, h)
+    turn : first < i → last_marked f none (range first (i - first)) ≡ cond m (some (i - 1)) (last_marked f none (range first (i - 1 - first)))
+    turn h =
+        let p : i - first ≡ suc (i - 1 - first) = omega arith in
+        let q : first + (i - 1 - first) ≡ i - 1 = omega arith in
+        let e = last_decides none first (i - 1 - first) in
+        rw p (rw (q, ← mark_read) at e)
 
--- ---- the walk
-module _ (f : List ℕ) (first count : ℕ) where
-  pub mark_start : last_marked f none (range first count) ≡ last_marked f none (range (first + 0) (count - 0))
-  mark_start =
-      let p : first + 0 ≡ first = omega arith in
-      let q : count - 0 ≡ count = omega arith in
-      rw (p, q)
+    module _ (so_far : last_marked f none (range first count) ≡ last_marked f none (range first (i - first))) (h : first < i) where
+      pub last_is : m ≡ true → some (i - 1) ≡ last_marked f none (range first count)
+      last_is e = sym (so_far ∙ rw e at (turn h))
 
-  module _ (k : ℕ) (z l : Option ℕ) (so_far : z ≡ last_marked f l (range (first + k) (count - k))) where
-    pub mark_turn : (r : Option ℕ) → k < count → r ≡ cond (marked f (first + k) 2) (some (first + k)) l
-        → z ≡ last_marked f r (range (first + (k + 1)) (count - (k + 1)))
-    unfolding last_marked range
-    mark_turn r h e =
-        let p : count - k ≡ suc (count - (k + 1)) = omega arith in
-        let q : first + k + 1 ≡ first + (k + 1) = omega arith in
-        so_far ∙ ap (λ (n : ℕ). last_marked f l (range (first + k) n)) p
-        ∙ ap₂ (λ (o : Option ℕ) (i : ℕ). last_marked f o (range i (count - (k + 1)))) (sym e) q
+      pub goes_on : m ≡ false → last_marked f none (range first count) ≡ last_marked f none (range first (i - 1 - first))
+      goes_on e = so_far ∙ rw e at (turn h)
 
-    pub mark_end : count ≤ k → l ≡ z
-    unfolding last_marked range
-    mark_end h = let p : count - k ≡ 0 = omega arith in sym (so_far ∙ rw p)
+  pub none_left : (first count i : ℕ) → last_marked f none (range first count) ≡ last_marked f none (range first (i - first)) → i ≤ first
+      → none ≡ last_marked f none (range first count)
+  unfolding last_marked range
+  none_left first count i e h = let p : i - first ≡ 0 = omega arith in sym (rw p at e)

@@ -2,7 +2,8 @@
 use mathlib.Core.Path.{◌≡◌, sym, ap, ap₂, ◌∙◌}
 use mathlib.Core.Bool.{Bool}
 use mathlib.Core.List.{List, [], ◌∷◌}
-use Prim.Native.Nat.{ℕ, suc, ◌+◌, ◌-◌, ◌≤◌, ◌<◌}
+use Prim.Native.Nat.{ℕ, suc, min, ◌+◌, ◌-◌, ◌≤◌, ◌<◌}
+use native.Mathlib.Decide.{dec_lt}
 use native.Mathlib.Omega.{arith}
 use lib.ListN.{length, take, drop, get_or, length-drop, drop_of_length-le}
 use lib.Seq.{take-nil, drop-cons, length-take-le}
@@ -12,14 +13,14 @@ use Rattle.definition.specs.Contents.{offset}
 use Rattle.leaf.proofs.Copies.{part_rest, part_in}
 use Rattle.ssa.specs.declared.parts.Text.{Text}
 use Rattle.flags.specs.Inside.{Inside}
-use Rattle.flags.specs.Heads.{text_in}
+use Rattle.flags.specs.Nodes.{text_in}
 use Rattle.flags.specs.declared.spans.Span.{Span}
 
 module _ (f : List ℕ) (at n : ℕ) where
   nothing_past : (k : ℕ) → length f ≤ k → (m : ℕ) → take m (drop k f) ≡ []
   nothing_past k h m = ap (take m) (drop_of_length-le f h) ∙ take-nil m
 
-  pub clip_past : length f ≤ at → Inside f at n (record { start = length f; end = length f })
+  clip_past : length f ≤ at → Inside f at n (record { start = length f; end = length f })
   unfolding part
   clip_past h = record {
     ordered = omega arith;
@@ -27,11 +28,27 @@ module _ (f : List ℕ) (at n : ℕ) where
     holds = nothing_past (length f) (omega arith) (length f - length f) ∙ sym (nothing_past at h n);
   }
 
-  pub clip_rest : at < length f → length f - at < n → Inside f at n (record { start = at; end = length f })
+  clip_rest : at < length f → length f - at < n → Inside f at n (record { start = at; end = length f })
   clip_rest h k = record { ordered = omega arith; within = omega arith; holds = part_rest f at n k }
 
-  pub clip_in : at < length f → n ≤ length f - at → Inside f at n (record { start = at; end = at + n })
+  clip_in : at < length f → n ≤ length f - at → Inside f at n (record { start = at; end = at + n })
   clip_in h k = record { ordered = omega arith; within = omega arith; holds = part_in f at n }
+
+  -- from i to j, by where the file ends, which is no place past `most`
+  module _ (i j k most : ℕ) (begins : i ≡ min at (length f)) (stops : k ≡ min (at + n) most) (ends : j ≡ min k (length f)) (few : length f ≤ most) where
+    abbrev Clipped : Type 0
+    Clipped = Inside f at n (record { start = i; end = j })
+
+    pub clip_is : Clipped
+    clip_is = past (dec_lt at (length f))
+      where
+        rest : at < length f → Dec (length f - at < n) → Clipped
+        rest h (yes q) = let a : i ≡ at = omega arith in let b : j ≡ length f = omega arith in rw (a, b) (clip_rest h q)
+        rest h (no q) = let a : i ≡ at = omega arith in let b : j ≡ at + n = omega arith in rw (a, b) (clip_in h (omega arith))
+
+        past : Dec (at < length f) → Clipped
+        past (yes h) = rest h (dec_lt (length f - at) n)
+        past (no h) = let a : i ≡ length f = omega arith in let b : j ≡ length f = omega arith in rw (a, b) (clip_past (omega arith))
 
   module _ (s : Span) (i : Inside f at n s) where
     long : length (part f at n) ≡ s.end - s.start

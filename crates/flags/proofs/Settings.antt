@@ -1,11 +1,12 @@
 -- What a marked statement sets the flags by, by its kind; and that the last marked statement is the definition's last setter.
 use mathlib.Core.Path.{◌≡◌, refl, sym, ap, ◌∙◌}
-use mathlib.Core.Bool.{Bool, true, false, cond}
+use mathlib.Core.Bool.{Bool, true, false, cond, not}
 use mathlib.Core.Option.{Option, none, some}
 use mathlib.Core.List.{List, [], ◌∷◌, map}
 use Prim.Native.Nat.{ℕ}
+use Rattle.std.specs.Prelude.{Option as Answer, Some, None}
+use Rattle.std.specs.Bool.{then_some}
 use lib.Dec.{eqb}
-use borrow.Author.Tests.{ne_eqb}
 use denote.Enum.Declared.{tag_of}
 use types.Run.{OneOf, miss}
 use Rattle.definition.specs.Codes.{k_assign, k_store, k_call, k_branch, k_flags, k_return}
@@ -16,7 +17,8 @@ use Rattle.definition.specs.Ssa.{Kind as DKind, eqe}
 use Rattle.definition.specs.Read.{tree_at, all_trees, kind_at, marked, stmt_at}
 use Rattle.definition.specs.Condition as D
 use Rattle.definition.specs.Condition.{setting_of, last_setter, setter_of}
-use Rattle.definition.proofs.Bools.{by_cond}
+use Rattle.definition.proofs.Bools.{by_test, by_cond}
+use Rattle.ssa.specs.View.{option_of}
 use Rattle.ssa.proofs.Views.{through}
 use Rattle.statements.specs.Statement.{assign_record, kind_by, kind_record, stmt_record}
 use Rattle.statements.specs.View.{view_kind}
@@ -27,19 +29,18 @@ use Rattle.statements.specs.declared.statement.Kind.{Kind}
 use Rattle.statements.specs.contracts.statement.Kind.{the_type}
 use Rattle.statements.specs.declared.statement.Kind.TheVariants.{Assign, Store, Call, Branch, Flags, Return, Other}
 use Rattle.flags.specs.Views.{view_setter, setting, view_setting}
-use Rattle.flags.specs.Marked.{view_last, last_marked}
-use Rattle.flags.specs.declared.setter.Last.{Last}
+use Rattle.flags.specs.Marked.{last_marked}
 use Rattle.flags.specs.declared.comparison.Setter.{Setter}
 use Rattle.flags.specs.declared.comparison.Setter.TheVariants.{Cmp, Test, Same}
 use Rattle.flags.specs.declared.comparison.Setting.{Setting}
-use Rattle.flags.specs.declared.comparison.Setting.TheVariants.{Nothing, Operands, Result}
+use Rattle.flags.specs.declared.comparison.Setting.TheVariants.{Operands, Result}
 
 -- ---- a Flags
 module _ (f : List ℕ) (t : ℕ) (c : FlagsS) where
   -- the answer with this setter is right
   abbrev By : Setter → Type 0
   By b = (E : Edition) → text E ≡ t
-      → view_setting E f (Operands (record { by = b; left = c.left; right = c.right })) ≡ setting_of (view_kind E f (all_trees E f) (Flags c))
+      → view_setting E f (Some (Operands (record { by = b; left = c.left; right = c.right }))) ≡ setting_of (view_kind E f (all_trees E f) (Flags c))
 
   pub is_cmp : c.test ≡ false → By Cmp
   unfolding view_setting view_setter setting view_kind setting_of
@@ -55,7 +56,7 @@ module _ (f : List ℕ) (t : ℕ) (c : FlagsS) where
     is_test_lem y E e = rw (tests, ← says E e, y)
 
 -- ---- the kinds that set none, which the code takes together
-none_by : (E : Edition) (f : List ℕ) (k : Kind) → OneOf (1 ∷ 2 ∷ 3 ∷ 5 ∷ 6 ∷ []) (tag_of the_type k) → view_setting E f Nothing ≡ setting_of (view_kind E f (all_trees E f) k)
+none_by : (E : Edition) (f : List ℕ) (k : Kind) → OneOf (1 ∷ 2 ∷ 3 ∷ 5 ∷ 6 ∷ []) (tag_of the_type k) → view_setting E f None ≡ setting_of (view_kind E f (all_trees E f) k)
 unfolding view_setting view_kind setting_of
 none_by E f (Assign s) h = absurd (miss (1 ∷ 2 ∷ 3 ∷ 5 ∷ 6 ∷ []) 0 tt h)
 none_by E f (Store s) h = refl
@@ -103,7 +104,7 @@ module _ (f : List ℕ) (i first : ℕ) where
       by_cond P (eqb g k_return) (λ _. refl) (λ _. refl))))))
 
   module _ (t : ℕ) (s : Stmt) (is : s ≡ stmt_record f i first) where
-    abbrev Is : Setting → Type 0
+    abbrev Is : Answer Setting → Type 0
     Is x = (E : Edition) → text E ≡ t → view_setting E f x ≡ setting_of (kind_at E f (all_trees E f) i)
 
     kind_read : s.kind ≡ kind_record f i first
@@ -111,25 +112,24 @@ module _ (f : List ℕ) (i first : ℕ) where
     kind_read = ap (λ (x : Stmt). x.kind) is
 
     -- by the kind that the record has
-    pub at_kind : (x : Setting) (k : Kind) → s.kind ≡ k → ((E : Edition) → text E ≡ t → view_setting E f x ≡ setting_of (view_kind E f (all_trees E f) k)) → Is x
+    pub at_kind : (x : Answer Setting) (k : Kind) → s.kind ≡ k → ((E : Edition) → text E ≡ t → view_setting E f x ≡ setting_of (view_kind E f (all_trees E f) k)) → Is x
     at_kind x k h says E e = says E e ∙ ap (λ (z : Kind). setting_of (view_kind E f (all_trees E f) z)) (sym h ∙ kind_read) ∙ setting_view E
 
     -- neither Flags nor an Assign
-    pub at_none : OneOf (1 ∷ 2 ∷ 3 ∷ 5 ∷ 6 ∷ []) (tag_of the_type s.kind) → Is Nothing
-    at_none h = at_kind Nothing s.kind refl (λ E e. none_by E f s.kind h)
+    pub at_none : OneOf (1 ∷ 2 ∷ 3 ∷ 5 ∷ 6 ∷ []) (tag_of the_type s.kind) → Is None
+    at_none h = at_kind None s.kind refl (λ E e. none_by E f s.kind h)
 
     module _ (a : AssignS) (assigns : s.kind ≡ Assign a) where
-      pub at_rsp : a.value.reg ≡ 4 → Is Nothing
-      unfolding view_setting setting_of view_kind
-      at_rsp h = at_kind Nothing (Assign a) assigns (λ E e. rw h)
-
       assign_is : a ≡ assign_record f i
       unfolding assign_of
       assign_is = ap (assign_of (assign_record f i)) (sym assigns ∙ kind_read) ∙ assign_read
 
-      pub at_assign : (a.value.reg ≡ 4 → ⊥) → Is (Result i)
+      pub at_assign : (x : Answer Setting) → x ≡ then_some (not (eqb a.value.reg 4)) (Result i) → Is x
       unfolding view_setting setting setting_of view_kind
-      at_assign h = at_kind (Result i) (Assign a) assigns (λ E e. rw (ne_eqb a.value.reg 4 h, assign_is))
+      at_assign x e =
+          rw e (by_test (eqb a.value.reg 4)
+          (λ h. rw h (at_kind None (Assign a) assigns (λ E e. rw h)))
+          (λ h. rw h (at_kind (Some (Result i)) (Assign a) assigns (λ E e. rw (h, assign_is)))))
 
 -- ---- the last marked statement is the last setter
 module _ (E : Edition) (f : List ℕ) where
@@ -149,16 +149,16 @@ module _ (E : Edition) (f : List ℕ) where
       ap (λ (k : Option DKind). last_setter k (map (stmt_at E f (all_trees E f)) is)) (kind_choice (marked f i 2) i o)
       ∙ last_kind (cond (marked f i 2) (some i) o) is
 
-  module _ (is : List ℕ) (last : Last) (says : view_last last ≡ last_marked f none is) where
-    setter_is : (o : Option ℕ) → view_last last ≡ o → setter_of (kind_for o) ≡ setter_of (last_setter none (map (stmt_at E f (all_trees E f)) is))
+  module _ (is : List ℕ) (last : Answer ℕ) (says : option_of last ≡ last_marked f none is) where
+    setter_is : (o : Option ℕ) → option_of last ≡ o → setter_of (kind_for o) ≡ setter_of (last_setter none (map (stmt_at E f (all_trees E f)) is))
     unfolding kind_for
     setter_is o e = sym (ap setter_of (last_kind none is ∙ ap kind_for (sym says ∙ e)))
 
-    pub set_last : (s : Setting) → last.there ≡ true → view_setting E f s ≡ setting_of (kind_at E f (all_trees E f) last.at)
+    pub set_last : (s : Answer Setting) (i : ℕ) → last ≡ Some i → view_setting E f s ≡ setting_of (kind_at E f (all_trees E f) i)
         → view_setting E f s ≡ setter_of (last_setter none (map (stmt_at E f (all_trees E f)) is))
     unfolding kind_for setter_of
-    set_last s h e = e ∙ setter_is (some last.at) (ap (λ (b : Bool). cond b (some last.at) none) h)
+    set_last s i h e = e ∙ setter_is (some i) (ap option_of h)
 
-    pub none_set : last.there ≡ false → view_setting E f Nothing ≡ setter_of (last_setter none (map (stmt_at E f (all_trees E f)) is))
+    pub none_set : (s : Answer Setting) → s ≡ None → last ≡ None → view_setting E f s ≡ setter_of (last_setter none (map (stmt_at E f (all_trees E f)) is))
     unfolding kind_for setter_of view_setting
-    none_set h = setter_is none (ap (λ (b : Bool). cond b (some last.at) none) h)
+    none_set s e h = rw e (setter_is none (ap option_of h))

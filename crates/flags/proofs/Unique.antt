@@ -5,6 +5,7 @@ use mathlib.Core.Bool.{Bool}
 use mathlib.Core.Option.{none}
 use mathlib.Core.List.{List, map}
 use Prim.Native.Nat.{ℕ}
+use Rattle.std.specs.Prelude.{Option as Answer}
 use Rattle.definition.specs.Edition.{Edition}
 use Rattle.definition.specs.Lists.{range}
 use Rattle.definition.specs.Words.{part}
@@ -18,10 +19,10 @@ use Rattle.flags.specs.declared.comparison.Setter.{Setter}
 use Rattle.flags.specs.declared.comparison.Shown.{Shown}
 use Rattle.flags.specs.declared.comparison.Setting.{Setting}
 
-pub code_of_lem : (f : List ℕ) (at n : ℕ) (r s : Code) → r ≡ code_enum (code_of (part f at n)) → s ≡ code_enum (code_of (part f at n)) → r ≡ s
+pub code_of_lem : (f : List ℕ) (at n : ℕ) (r s : Answer Code) → r ≡ code_enum (code_of (part f at n)) → s ≡ code_enum (code_of (part f at n)) → r ≡ s
 code_of_lem f at n r s p q = p ∙ sym q
 
-pub shown_is : (by : Setter) (code : Code) (r s : Shown) → r ≡ shown_record (shown_of by code) → s ≡ shown_record (shown_of by code) → r ≡ s
+pub shown_is : (by : Setter) (code : Answer Code) (r s : Answer Shown) → r ≡ shown_record (shown_of by code) → s ≡ shown_record (shown_of by code) → r ≡ s
 shown_is by code r s p q = p ∙ sym q
 
 module _ (f : List ℕ) (t : ℕ) (E : Edition) (section : text E ≡ t) where
@@ -30,7 +31,7 @@ module _ (f : List ℕ) (t : ℕ) (E : Edition) (section : text E ≡ t) where
       → ((E : Edition) → text E ≡ t → s ≡ eqe (tree_at (all_trees E f) a) (tree_at (all_trees E f) b)) → r ≡ s
   same_expr a b r s p q = p E section ∙ sym (q E section)
 
-  pub setter_is : (first count : ℕ) (r s : Setting)
+  pub setter_is : (first count : ℕ) (r s : Answer Setting)
       → ((E : Edition) → text E ≡ t → view_setting E f r ≡ setter_of (last_setter none (map (stmt_at E f (all_trees E f)) (range first count))))
       → ((E : Edition) → text E ≡ t → view_setting E f s ≡ setter_of (last_setter none (map (stmt_at E f (all_trees E f)) (range first count))))
       → view_setting E f r ≡ view_setting E f s

@@ -1,4 +1,4 @@
 pub mod Inside
-pub mod Heads
+pub mod Nodes
 pub mod Views
 pub mod Marked

@@ -1,11 +1,7 @@
 -- The last statement that is marked as setting the flags, by its number.
 use Rattle.std.specs.Prelude.{cond, List, [], ◌∷◌, ℕ}
-use Rattle.std.proofs.Math.Option.{Option, none, some}
+use Rattle.std.proofs.Math.Option.{Option, some}
 use Rattle.definition.specs.Read.{marked}
-use Rattle.flags.specs.declared.setter.Last.{Last}
-
-abbrev pub view_last : Last → Option ℕ
-view_last k = cond k.there (some k.at) none
 
 -- among these, k being the last before them
 unfoldable pub last_marked : List ℕ → Option ℕ → List ℕ → Option ℕ

@@ -20,66 +20,59 @@ pub enum Code {
     Be,
     S,
     Ns,
-    Unknown,
 }
 
 // By the one byte of a text.
-fn code_of_one(a: u8) -> Code
+#[tactic(auto, unfolding(definition::specs::Texts::same, definition::specs::Condition::code_of, crate::specs::Views::code_one, crate::specs::Views::code_enum))]
+fn code_of_one(a: u8) -> Option<Code>
     ensures { result ≡ code_enum (code_of (a ∷ [])) }
 {
     match a {
-        b'e' => Code::E,
-        b'l' => Code::L,
-        b'g' => Code::G,
-        b'b' => Code::B,
-        b'a' => Code::A,
-        b's' => Code::S,
-        _ => Code::Unknown,
+        b'e' => Some(Code::E),
+        b'l' => Some(Code::L),
+        b'g' => Some(Code::G),
+        b'b' => Some(Code::B),
+        b'a' => Some(Code::A),
+        b's' => Some(Code::S),
+        _ => None,
     }
 }
 
 // By the byte before an `e`.
-fn code_with_e(a: u8) -> Code
+#[tactic(auto, unfolding(definition::specs::Texts::same, definition::specs::Condition::code_of, crate::specs::Views::code_one, crate::specs::Views::code_enum))]
+fn code_with_e(a: u8) -> Option<Code>
     ensures { result ≡ code_enum (code_of (a ∷ 101 ∷ [])) }
 {
     match a {
-        b'n' => Code::Ne,
-        b'g' => Code::Ge,
-        b'l' => Code::Le,
-        b'a' => Code::Ae,
-        b'b' => Code::Be,
-        _ => Code::Unknown,
+        b'n' => Some(Code::Ne),
+        b'g' => Some(Code::Ge),
+        b'l' => Some(Code::Le),
+        b'a' => Some(Code::Ae),
+        b'b' => Some(Code::Be),
+        _ => None,
     }
 }
 
 // By two bytes.
-fn code_of_two(a: u8, b: u8) -> Code
+#[tactic(auto, unfolding(definition::specs::Texts::same, definition::specs::Condition::code_of, crate::specs::Views::code_one, crate::specs::Views::code_enum))]
+fn code_of_two(a: u8, b: u8) -> Option<Code>
     ensures { result ≡ code_enum (code_of (a ∷ b ∷ [])) }
 {
-    if b == b'e' {
-        return code_with_e(a);
+    match b {
+        b'e' => code_with_e(a),
+        b's' => (a == b'n').then_some(Code::Ns),
+        _ => None,
     }
-    if b != b's' {
-        return Code::Unknown;
-    }
-    if a == b'n' {
-        return Code::Ns;
-    }
-    Code::Unknown
 }
 
 // The code that n bytes from `at` on are, as far as the file has them.
-pub fn code_of(f: &[u8], at: usize, n: usize) -> Code
+pub fn code_of(f: &[u8], at: usize, n: usize) -> Option<Code>
     ensures { result ≡ code_enum (code_of (part f.now at n)) }
 {
     let p = clip(f, at, n);
-    let i = p.start;
-    let m = p.end - i;
-    if m == 1 {
-        return code_of_one(f[i]);
+    match &f[p.start..p.end] {
+        [a] => code_of_one(*a),
+        [a, b] => code_of_two(*a, *b),
+        _ => None,
     }
-    if m == 2 {
-        return code_of_two(f[i], f[i + 1]);
-    }
-    Code::Unknown
 }

@@ -29,10 +29,9 @@ pub enum Side {
     Nought,
 }
 
-// What is printed, if anything.
+// What is printed.
 #[derive(Clone, Copy)]
 pub struct Shown {
-    pub there: bool,
     pub unsigned: bool,
     pub lhs: Side,
     pub sign: Sign,
@@ -47,10 +46,9 @@ pub struct Operands {
     pub right: u32,
 }
 
-// What a block's flags were set by: nothing, two expressions, or the value that a statement assigns.
+// What a block's flags were set by: two expressions, or the value that a statement assigns.
 #[derive(Clone, Copy)]
 pub enum Setting {
-    Nothing,
     Operands(Operands),
     Result(u32),
 }

@@ -18,15 +18,9 @@ pub fn clip(f: &[u8], at: usize, n: usize) -> Span
     ensures { Inside f.now at n result }
 {
     let end = f.len();
-    if end <= at {
-        return Span { start: end, end };
-    }
-    if end - at < n {
-        return Span { start: at, end };
-    }
     Span {
-        start: at,
-        end: at + n,
+        start: at.min(end),
+        end: at.saturating_add(n).min(end),
     }
 }
 
@@ -36,9 +30,5 @@ pub fn same_parts(f: &[u8], i: usize, n: usize, j: usize, m: usize) -> bool
 {
     let p = clip(f, i, n);
     let q = clip(f, j, m);
-    let a = p.start;
-    let b = p.end;
-    let c = q.start;
-    let d = q.end;
-    same_text(&f[a..b], &f[c..d])
+    same_text(&f[p.start..p.end], &f[q.start..q.end])
 }

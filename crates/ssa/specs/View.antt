@@ -1,5 +1,5 @@
 -- The code's records, read as the definition's: a text is its bytes, an expression's number its tree in t.
-use Rattle.std.specs.Prelude.{Bool, cond, List, map, ℕ}
+use Rattle.std.specs.Prelude.{Option as Answer, Some, None, List, map, ℕ}
 use Rattle.std.proofs.Math.Option.{Option, none, some}
 use Rattle.definition.specs.Edition.{Edition}
 use Rattle.definition.specs.Lists.{range}
@@ -9,26 +9,27 @@ use Rattle.definition.specs.Ssa.Expr.{Const as DConst, Use as DUse, Bin as DBin,
 use Rattle.definition.specs.Read.{tree_at, stmt_at, phi_at}
 use Rattle.defined.specs.Defined.{value_of}
 use Rattle.ssa.specs.declared.parts.Text.{Text}
-use Rattle.ssa.specs.declared.parts.Destination.{Destination}
 use Rattle.ssa.specs.declared.block.Block.{Block}
 use Rattle.ssa.specs.declared.node.Node.{Node}
 use Rattle.ssa.specs.declared.node.Node.TheVariants.{Const, Use, Bin, Un, Load, Opaque}
 
-abbrev pub option {ℓ} : {A : Type ℓ} → Bool → A → Option A
-option there x = cond there (some x) none
+-- what the code has or not, as an option of the rules, read by g
+abbrev pub view_option : {A B : Type 0} → (A → B) → Answer A → Option B
+view_option g None = none
+view_option g (Some x) = some (g x)
+
+abbrev pub option_of : {A : Type 0} → Answer A → Option A
+option_of o = view_option (λ x. x) o
 
 abbrev pub view_text : Edition → List ℕ → Text → List ℕ
 view_text E f t = text_at E f t.start t.len
-
-abbrev pub view_destination : Destination → Option ℕ
-view_destination d = option d.there d.address
 
 -- a block whose phis and statements begin at `phi` and `stmt`
 unfoldable pub view_block : Edition → List ℕ → List Expr → ℕ → ℕ → Block → DBlock
 view_block E f t phi stmt b = record {
   start = b.start;
-  taken = view_destination b.taken;
-  fall = view_destination b.fall;
+  taken = option_of b.taken;
+  fall = option_of b.fall;
   phis = map (phi_at f) (range phi b.phis);
   stmts = map (stmt_at E f t) (range stmt b.stmts);
 }

@@ -2,7 +2,6 @@
 ghost use Rattle.std.specs.Prelude.{◌≡◌};
 ghost use Rattle.ssa.specs.Block.{phi_record, block_record};
 
-use crate::parts::Destination;
 use defined::value::{Value, phi_value};
 use records::contents::{block_long, block_word, phi_word};
 use records::owners::{block_phis, block_stmts, phi_inputs};
@@ -18,8 +17,9 @@ pub struct Phi {
 #[derive(Clone, Copy)]
 pub struct Block {
     pub start: u64,
-    pub taken: Destination,
-    pub fall: Destination,
+    // Where control goes by its branch, and where it falls, if anywhere.
+    pub taken: Option<u64>,
+    pub fall: Option<u64>,
     // How many phis and statements it has.
     pub phis: u32,
     pub stmts: u32,
@@ -40,14 +40,8 @@ pub fn block_at(f: &[u8], i: u32) -> Block
 {
     Block {
         start: block_long(f, i, 0),
-        taken: Destination {
-            there: block_word(f, i, 2) == 1,
-            address: block_long(f, i, 3),
-        },
-        fall: Destination {
-            there: block_word(f, i, 5) == 1,
-            address: block_long(f, i, 6),
-        },
+        taken: (block_word(f, i, 2) == 1).then_some(block_long(f, i, 3)),
+        fall: (block_word(f, i, 5) == 1).then_some(block_long(f, i, 6)),
         phis: block_phis(f, i),
         stmts: block_stmts(f, i),
     }

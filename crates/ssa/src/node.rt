@@ -5,17 +5,7 @@ ghost use Rattle.ssa.specs.Node.{node_record};
 use crate::parts::Text;
 use defined::value::Value;
 use records::contents::{expr_long, expr_word};
-
-// The tags of expressions.
-pub const CONST: u32 = 1;
-
-pub const USE: u32 = 2;
-
-pub const BIN: u32 = 3;
-
-pub const UN: u32 = 4;
-
-pub const LOAD: u32 = 5;
+use records::owners::{BIN, CONST, LOAD, UN, USE};
 
 #[derive(Clone, Copy)]
 pub struct Bin {

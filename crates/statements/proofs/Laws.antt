@@ -1,9 +1,12 @@
 -- What each return of the functions comes to, over plain numbers and lists.
 use mathlib.Core.Path.{◌≡◌, refl, sym, ap, ◌∙◌}
 use mathlib.Core.List.{List}
-use Prim.Native.Nat.{ℕ, ◌+◌, ◌-◌, ◌/◌, ◌%◌, ◌≤◌, ◌<◌}
+use Prim.Native.Nat.{ℕ, ◌+◌, ◌-◌, ◌/◌, ◌%◌, ◌≤◌}
 use lib.Dec.{eqb}
-use borrow.Author.Tests.{le-leb, lt-leb, ne_eqb}
+use borrow.Author.Tests.{le-leb, ne_eqb}
+use native.Mathlib.Omega.{arith}
+use Rattle.std.proofs.Common.{min}
+use Rattle.std.proofs.lemmas.Bool.Decides.{nat_tests}
 use Rattle.definition.specs.Owners.{stmt_kind, stmt_field}
 use Rattle.statements.specs.Items.{behind_of, expr_run, value_run}
 use Rattle.statements.specs.Statement.{call_of, branch_of, other_of, kind_by, kind_record, mark_of}
@@ -17,9 +20,9 @@ pub behind_fits : (a n : ℕ) → n ≤ 4294967295 - a → a + n ≡ behind_of a
 unfolding behind_of
 behind_fits a n h = rw (le-leb n (4294967295 - a) h)
 
-pub behind_last : (a n : ℕ) → 4294967295 - a < n → 4294967295 ≡ behind_of a n
+pub behind_min : (a n : ℕ) → a ≤ 4294967295 → min (a + n) 4294967295 ≡ behind_of a n
 unfolding behind_of
-behind_last a n h = rw (lt-leb n (4294967295 - a) h)
+behind_min a n h = grind (arith, nat_tests)
 
 -- ---- the mark
 pub mark_is : (w : ℕ) → eqb (w / 2 % 2) 1 ≡ mark_of w 2

@@ -15,16 +15,18 @@ use Rattle.definition.specs.Codes.{k_assign, k_store, k_call, k_branch, k_flags,
 use Rattle.definition.specs.Edition.{Edition, statements}
 use Rattle.definition.specs.Lists.{range}
 use Rattle.definition.specs.Contents.{size, stmt_word, stmt_long, item_word}
-use Rattle.definition.specs.Owners.{stmt_kind, expr_items, value_items, first_item}
+use Rattle.definition.specs.Owners.{stmt_field, stmt_kind, expr_items, value_items, first_item}
 use Rattle.definition.specs.Shape.{owned}
 use Rattle.definition.specs.References.{item_exprs}
 use Rattle.definition.specs.Values.{Value as DValue, value}
 use Rattle.definition.specs.Meaning.{item_values}
 use Rattle.definition.specs.Ssa.{Expr, Kind as DKind}
-use Rattle.definition.specs.Ssa.Kind.{Call as DCall, Branch as DBranch, Other as DOther}
+use Rattle.definition.specs.Ssa.Kind.{Call as DCall, Branch as DBranch, Return as DReturn, Other as DOther}
 use Rattle.definition.specs.Read.{tree_at, kind_at, marked, stmt_at}
 use Rattle.records.proofs.Items.{items_few, exprs_fit}
-use Rattle.ssa.proofs.Views.{through}
+use Rattle.ssa.proofs.Views.{option_by, through}
+use Rattle.ssa.specs.View.{view_text}
+use Rattle.defined.specs.Defined.{value_of}
 use Rattle.statements.specs.Items.{behind_of, expr_run, value_run}
 use Rattle.statements.specs.Statement.{kind_by, kind_record, kind_number, stmt_record, mark_of}
 use Rattle.statements.specs.View.{view_exprs, view_values, view_kind, view_stmt}
@@ -37,11 +39,11 @@ abbrev pub Placed : List ℕ → ℕ → Type 0
 Placed f i = first_item f i + expr_items f i < 4294967296
 
 -- a kind's lists, replaced by equal ones
-same_call : (x : List ℕ) (r : Option DValue) (es us : List Expr) (vs ws : List DValue) → es ≡ us → vs ≡ ws → DCall x es r vs ≡ DCall x us r ws
-same_call x r es us vs ws p q = rw (p, q)
+same_call : (x : List ℕ) (r r' : Option DValue) (es us : List Expr) (vs ws : List DValue) → r ≡ r' → es ≡ us → vs ≡ ws → DCall x es r vs ≡ DCall x us r' ws
+same_call x r r' es us vs ws h p q = rw (h, p, q)
 
-same_branch : (c : Option (List ℕ)) (d : Option ℕ) (es us : List Expr) → es ≡ us → DBranch c d es ≡ DBranch c d us
-same_branch c d es us p = rw p
+same_branch : (c c' : Option (List ℕ)) (d d' : Option ℕ) (es us : List Expr) → c ≡ c' → d ≡ d' → es ≡ us → DBranch c d es ≡ DBranch c' d' us
+same_branch c c' d d' es us g h p = rw (g, h, p)
 
 same_other : (x : List ℕ) (es us : List Expr) (vs ws : List DValue) → es ≡ us → vs ≡ ws → DOther x es vs ≡ DOther x us ws
 same_other x es us vs ws p q = rw (p, q)
@@ -65,10 +67,10 @@ module _ (E : Edition) (f : List ℕ) (t : List Expr) (i : ℕ) where
       let k = stmt_kind f i in
       through v same (eqb k k_assign) _ _ _ _ refl
       (through v same (eqb k k_store) _ _ _ _ refl
-      (through v same (eqb k k_call) _ _ _ _ (same_call _ _ _ _ _ _ exprs_view (values_view h))
-      (through v same (eqb k k_branch) _ _ _ _ (same_branch _ _ _ _ exprs_view)
+      (through v same (eqb k k_call) _ _ _ _ (same_call _ _ _ _ _ _ _ (option_by value_of (eqb (stmt_field f i 3) 1) _) exprs_view (values_view h))
+      (through v same (eqb k k_branch) _ _ _ _ (same_branch _ _ _ _ _ _ (option_by (view_text E f) (eqb (stmt_field f i 0) 1) _) (option_by (λ x. x) (eqb (stmt_field f i 3) 1) _) exprs_view)
       (through v same (eqb k k_flags) _ _ _ _ refl
-      (through v same (eqb k k_return) _ _ _ _ refl
+      (through v same (eqb k k_return) _ _ _ _ (ap DReturn (option_by (tree_at t) (eqb (stmt_field f i 0) 1) (stmt_field f i 1)))
       (same_other _ _ _ _ _ exprs_view (values_view h)))))))
 
   pub stmt_view : Placed f i → view_stmt E f t (stmt_record f i (first_item f i)) ≡ stmt_at E f t i

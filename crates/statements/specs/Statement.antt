@@ -1,5 +1,6 @@
 -- Statement i of the file as a value of the code's types, its list items beginning at `first`.
-use Rattle.std.specs.Prelude.{Bool, cond, List, ℕ, ◌/◌, ◌%◌, eqb}
+use Rattle.std.specs.Prelude.{Option, Bool, cond, List, ℕ, ◌/◌, ◌%◌, eqb}
+use Rattle.std.specs.Bool.{then_some}
 use Rattle.definition.specs.Codes.{k_assign, k_store, k_call, k_branch, k_flags, k_return, k_other}
 use Rattle.definition.specs.Contents.{stmt_word, stmt_long}
 use Rattle.definition.specs.Owners.{stmt_kind, stmt_field}
@@ -10,7 +11,6 @@ use Rattle.statements.specs.declared.statement.Store.{Store as StoreS}
 use Rattle.statements.specs.declared.statement.Call.{Call as CallS}
 use Rattle.statements.specs.declared.statement.Branch.{Branch as BranchS}
 use Rattle.statements.specs.declared.statement.Flags.{Flags as FlagsS}
-use Rattle.statements.specs.declared.statement.Return.{Return as ReturnS}
 use Rattle.statements.specs.declared.statement.Other.{Other as OtherS}
 use Rattle.statements.specs.declared.statement.Stmt.{Stmt}
 use Rattle.statements.specs.declared.statement.Kind.{Kind}
@@ -27,22 +27,22 @@ abbrev pub call_of : ℕ → ℕ → Items → ℕ → ℕ → ℕ → Items →
 call_of a b args there reg ver clobbers = record {
   target = record { start = a; len = b };
   args = args;
-  returned = record { there = eqb there 1; value = record { reg = reg; ver = ver } };
+  returned = then_some (eqb there 1) (record { reg = reg; ver = ver });
   clobbers = clobbers;
 }
 
 abbrev pub branch_of : ℕ → ℕ → ℕ → ℕ → ℕ → Items → BranchS
 branch_of a b c there address uses = record {
-  condition = record { there = eqb a 1; text = record { start = b; len = c } };
-  target = record { there = eqb there 1; address = address };
+  condition = then_some (eqb a 1) (record { start = b; len = c });
+  target = then_some (eqb there 1) address;
   uses = uses;
 }
 
 abbrev pub flags_of : ℕ → ℕ → ℕ → FlagsS
 flags_of a b c = record { test = eqb a 1; left = b; right = c }
 
-abbrev pub return_of : ℕ → ℕ → ReturnS
-return_of a b = record { there = eqb a 1; expr = b }
+abbrev pub return_of : ℕ → ℕ → Option ℕ
+return_of a b = then_some (eqb a 1) b
 
 abbrev pub other_of : ℕ → ℕ → Items → Items → OtherS
 other_of a b uses defs = record { text = record { start = a; len = b }; uses = uses; defs = defs }

@@ -8,7 +8,7 @@ use Rattle.definition.specs.Ssa.{Expr, Kind as DKind, Stmt as DStmt}
 use Rattle.definition.specs.Ssa.Kind.{Assign as DAssign, Store as DStore, Call as DCall, Branch as DBranch, Flags as DFlags, Return as DReturn, Other as DOther}
 use Rattle.definition.specs.Read.{tree_at}
 use Rattle.defined.specs.Defined.{value_of}
-use Rattle.ssa.specs.View.{option, view_text, view_destination}
+use Rattle.ssa.specs.View.{option_of, view_option, view_text}
 use Rattle.statements.specs.Statement.{mark_of}
 use Rattle.statements.specs.declared.items.Items.{Items}
 use Rattle.statements.specs.declared.statement.Stmt.{Stmt}
@@ -26,11 +26,11 @@ unfoldable pub view_kind : Edition → List ℕ → List Expr → Kind → DKind
 view_kind E f t (Assign s) = DAssign (value_of s.value) (tree_at t s.expr)
 view_kind E f t (Store s) = DStore s.size (tree_at t s.address) (tree_at t s.value)
 view_kind E f t (Call s) =
-    DCall (view_text E f s.target) (view_exprs f t s.args) (option s.returned.there (value_of s.returned.value)) (view_values f s.clobbers)
+    DCall (view_text E f s.target) (view_exprs f t s.args) (view_option value_of s.returned) (view_values f s.clobbers)
 view_kind E f t (Branch s) =
-    DBranch (option s.condition.there (view_text E f s.condition.text)) (view_destination s.target) (view_exprs f t s.uses)
+    DBranch (view_option (view_text E f) s.condition) (option_of s.target) (view_exprs f t s.uses)
 view_kind E f t (Flags s) = DFlags s.test (tree_at t s.left) (tree_at t s.right)
-view_kind E f t (Return s) = DReturn (option s.there (tree_at t s.expr))
+view_kind E f t (Return s) = DReturn (view_option (tree_at t) s)
 view_kind E f t (Other s) = DOther (view_text E f s.text) (view_exprs f t s.uses) (view_values f s.defs)
 
 unfoldable pub view_stmt : Edition → List ℕ → List Expr → Stmt → DStmt

@@ -11,9 +11,6 @@ pub struct Items {
     pub count: u32,
 }
 
-// The last place that there is.
-const LAST: u32 = 4294967295;
-
 // The expressions among the items of statement i, which begin at `first`.
 pub fn expr_run(f: &[u8], i: u32, first: u32) -> Items
     ensures { result ≡ expr_run f.now i first }
@@ -28,13 +25,8 @@ pub fn expr_run(f: &[u8], i: u32, first: u32) -> Items
 pub fn value_run(f: &[u8], i: u32, first: u32) -> Items
     ensures { result ≡ value_run f.now i first }
 {
-    let n = expr_items(f, i);
-    let count = value_items(f, i);
-    if n <= LAST - first {
-        return Items {
-            first: first + n,
-            count,
-        };
+    Items {
+        first: first.saturating_add(expr_items(f, i)),
+        count: value_items(f, i),
     }
-    Items { first: LAST, count }
 }

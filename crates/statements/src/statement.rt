@@ -7,7 +7,7 @@ use crate::items::{Items, expr_run, value_run};
 use defined::value::Value;
 use records::contents::{stmt_long, stmt_word};
 use records::owners::{ASSIGN, BRANCH, CALL, FLAGS, RETURN, STORE, stmt_field, stmt_kind};
-use ssa::parts::{Destination, Text};
+use ssa::parts::Text;
 
 // `value` becomes the expression.
 #[derive(Clone, Copy)]
@@ -24,32 +24,21 @@ pub struct Store {
     pub value: u32,
 }
 
-// What a call returns, if anything.
-#[derive(Clone, Copy)]
-pub struct Returned {
-    pub there: bool,
-    pub value: Value,
-}
-
 #[derive(Clone, Copy)]
 pub struct Call {
     pub target: Text,
     pub args: Items,
-    pub returned: Returned,
+    // What it returns, if anything.
+    pub returned: Option<Value>,
     pub clobbers: Items,
-}
-
-// The condition code of a conditional branch.
-#[derive(Clone, Copy)]
-pub struct Condition {
-    pub there: bool,
-    pub text: Text,
 }
 
 #[derive(Clone, Copy)]
 pub struct Branch {
-    pub condition: Condition,
-    pub target: Destination,
+    // The condition code, if it is conditional.
+    pub condition: Option<Text>,
+    // Where it goes, if to an address.
+    pub target: Option<u64>,
     pub uses: Items,
 }
 
@@ -59,12 +48,6 @@ pub struct Flags {
     pub test: bool,
     pub left: u32,
     pub right: u32,
-}
-
-#[derive(Clone, Copy)]
-pub struct Return {
-    pub there: bool,
-    pub expr: u32,
 }
 
 #[derive(Clone, Copy)]
@@ -81,7 +64,8 @@ pub enum Kind {
     Call(Call),
     Branch(Branch),
     Flags(Flags),
-    Return(Return),
+    // What is returned, if anything.
+    Return(Option<u32>),
     Other(Other),
 }
 
@@ -128,10 +112,7 @@ fn call_of(a: u32, b: u32, args: Items, there: u32, reg: u32, ver: u32, clobbers
     Call {
         target: Text { start: a, len: b },
         args,
-        returned: Returned {
-            there: there == 1,
-            value: Value { reg, ver },
-        },
+        returned: (there == 1).then_some(Value { reg, ver }),
         clobbers,
     }
 }
@@ -140,14 +121,8 @@ fn branch_of(a: u32, b: u32, c: u32, there: u32, address: u64, uses: Items) -> B
     ensures { result ≡ branch_of a b c there address uses }
 {
     Branch {
-        condition: Condition {
-            there: a == 1,
-            text: Text { start: b, len: c },
-        },
-        target: Destination {
-            there: there == 1,
-            address,
-        },
+        condition: (a == 1).then_some(Text { start: b, len: c }),
+        target: (there == 1).then_some(address),
         uses,
     }
 }
@@ -162,13 +137,10 @@ fn flags_of(a: u32, b: u32, c: u32) -> Flags
     }
 }
 
-fn return_of(a: u32, b: u32) -> Return
+fn return_of(a: u32, b: u32) -> Option<u32>
     ensures { result ≡ return_of a b }
 {
-    Return {
-        there: a == 1,
-        expr: b,
-    }
+    (a == 1).then_some(b)
 }
 
 fn other_of(a: u32, b: u32, uses: Items, defs: Items) -> Other

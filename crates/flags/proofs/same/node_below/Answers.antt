@@ -1,5 +1,5 @@
 -- Below the bound it is the record's node; any other is an Opaque without text, as the definition has it.
-use Rattle.flags.specs.Heads.{no_text}
+use Rattle.flags.specs.Nodes.{no_text}
 use Rattle.flags.proofs.Nodes.{node_in, node_out}
 use Rattle.flags.proofs.same.node_below.Goals as goal
 

@@ -9,5 +9,5 @@ returns-then-not-c c = is_cmp _ _ c.args.c (not-true _ c.if-not-c.true)
 pub returns-then-same_expr : goal.returns-then-same_expr
 returns-then-same_expr c = is_same _ _ c.args.c (not-false _ c.if-not-c.false) _ c.same_expr.ensures c.if-same_expr.true
 
-pub returns : goal.returns
-returns c = is_test_lem _ _ c.args.c (not-false _ c.if-not-c.false) _ c.same_expr.ensures c.if-same_expr.false
+pub returns-else-same_expr : goal.returns-else-same_expr
+returns-else-same_expr c = is_test_lem _ _ c.args.c (not-false _ c.if-not-c.false) _ c.same_expr.ensures c.if-same_expr.false

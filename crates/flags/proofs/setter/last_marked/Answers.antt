@@ -1,17 +1,16 @@
 use native.Mathlib.Omega.{arith}
-use Prim.Native.Nat.{◌-◌}
 use Rattle.records.proofs.Items.{size_small}
-use Rattle.flags.proofs.Marks.{mark_start, mark_turn, mark_end}
+use Rattle.flags.proofs.Marks.{last_is, goes_on, none_left}
 use Rattle.flags.proofs.setter.last_marked.Goals as goal
 
-pub loop-k-init : goal.loop-k-init
-loop-k-init c = (mark_start _ _ _, omega arith)
+pub overflow_step-i : goal.overflow_step-i
+overflow_step-i c = omega (arith, size_small c.args.f.now c.type_inv.f 4, c.requires)
 
-pub overflow_add-first : goal.overflow_add-first
-overflow_add-first c = omega (arith, size_small c.args.f.now c.type_inv.f 4, c.requires)
+pub returns-then-flags : goal.returns-then-flags
+returns-then-flags c = last_is _ _ _ _ _ c.stmt_at.ensures _ c.flags.ensures c.loop-i.invariant c.loop-i-test.true c.if-flags.true
 
-pub loop-k-preserved : goal.loop-k-preserved
-loop-k-preserved c = (mark_turn _ _ _ _ _ _ c.loop-k.invariant.0 _ c.loop-k-test.true c.later-last.ensures, omega arith)
+pub loop-i-preserved : goal.loop-i-preserved
+loop-i-preserved c = goes_on _ _ _ _ _ c.stmt_at.ensures _ c.flags.ensures c.loop-i.invariant c.loop-i-test.true c.if-flags.false
 
 pub returns : goal.returns
-returns c = mark_end _ _ _ _ _ _ c.loop-k.invariant.0 (omega arith)
+returns c = none_left _ _ _ _ c.loop-i.invariant (omega arith)
