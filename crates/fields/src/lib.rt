@@ -6,13 +6,11 @@ ghost use Rattle.definition.specs.Codes.{k_call, k_branch, k_return, k_other};
 ghost use Rattle.definition.specs.Owners.{stmt_kind, stmt_field};
 ghost use Rattle.definition.specs.Shape.{absent, block_shaped, phi_shaped};
 ghost use Rattle.definition.specs.Shape.{fields_shaped, items_shaped, stmt_shaped, expr_shaped};
-ghost use Rattle.fields.specs.Fields.{optional, blank_tail, headed, tag_shaped, Cut};
+ghost use Rattle.fields.specs.Fields.{optional, blank_tail, headed, Cut};
 
 use records::contents::{block_word, expr_word, item_word, phi_word, stmt_word};
-use records::owners::{
-    ASSIGN, BIN, BRANCH, CALL, CONST, FLAGS, LOAD, OPAQUE, OTHER, RETURN, STORE, UN, USE,
-    expr_items, stmt_field, stmt_kind,
-};
+use records::kinds::{Kind, Tag, kind_at, tag_at};
+use records::owners::{expr_items, stmt_field};
 
 // A field that is 0 where the word before it says that nothing is there.
 fn absent(there: u32, w: u32) -> bool
@@ -115,19 +113,19 @@ fn other_shaped(f: &[u8], i: u32) -> bool
 }
 
 // By its kind; no other kind is right.
-#[tactic(auto, unfolding(definition::specs::Shape::fields_shaped, crate::specs::Fields::blank_tail, crate::specs::Fields::headed))]
+#[tactic(auto, unfolding(definition::specs::Shape::fields_shaped, crate::specs::Fields::blank_tail, crate::specs::Fields::headed, records::specs::Kinds::kind_of))]
 fn fields_shaped(f: &[u8], i: u32) -> bool
     ensures { result ≡ fields_shaped (stmt_kind f.now i) (stmt_field f.now i) }
 {
-    match stmt_kind(f, i) {
-        ASSIGN => blank_tail(f, i),
-        STORE => headed(f, i, 255),
-        CALL => call_shaped(f, i),
-        BRANCH => branch_shaped(f, i),
-        FLAGS => headed(f, i, 1),
-        RETURN => return_shaped(f, i),
-        OTHER => other_shaped(f, i),
-        _ => false,
+    match kind_at(f, i) {
+        Some(Kind::Assign) => blank_tail(f, i),
+        Some(Kind::Store) => headed(f, i, 255),
+        Some(Kind::Call) => call_shaped(f, i),
+        Some(Kind::Branch) => branch_shaped(f, i),
+        Some(Kind::Flags) => headed(f, i, 1),
+        Some(Kind::Return) => return_shaped(f, i),
+        Some(Kind::Other) => other_shaped(f, i),
+        None => false,
     }
 }
 
@@ -149,28 +147,18 @@ pub fn stmt_shaped(f: &[u8], i: u32, at: u64) -> bool
     stmt_word(f, i, 2) <= 7 && fields_shaped(f, i) && items_shaped(f, i, at)
 }
 
-// The fields of an expression of tag t: its first, and its last two.
-#[tactic(auto, unfolding(crate::specs::Fields::tag_shaped))]
-fn tag_shaped(t: u32, a: u32, c: u32, d: u32) -> bool
-    ensures { result ≡ tag_shaped t a c d }
-{
-    match t {
-        BIN => true,
-        UN => d == 0,
-        LOAD => a <= 255 && c == 0 && d == 0,
-        CONST | USE | OPAQUE => c == 0 && d == 0,
-        _ => false,
-    }
-}
-
-#[tactic(auto, unfolding(definition::specs::Shape::expr_shaped, crate::specs::Fields::tag_shaped))]
+// The fields of an expression by its tag: its first, and its last two.
+#[tactic(auto, unfolding(definition::specs::Shape::expr_shaped, records::specs::Kinds::tag_of))]
 pub fn expr_shaped(f: &[u8], i: u32) -> bool
     ensures { result ≡ expr_shaped f.now i }
 {
-    tag_shaped(
-        expr_word(f, i, 0),
-        expr_word(f, i, 1),
-        expr_word(f, i, 3),
-        expr_word(f, i, 4),
-    )
+    let c = expr_word(f, i, 3);
+    let d = expr_word(f, i, 4);
+    match tag_at(f, i) {
+        Some(Tag::Bin) => true,
+        Some(Tag::Un) => d == 0,
+        Some(Tag::Load) => expr_word(f, i, 1) <= 255 && c == 0 && d == 0,
+        Some(Tag::Const | Tag::Use | Tag::Opaque) => c == 0 && d == 0,
+        None => false,
+    }
 }

@@ -12,7 +12,8 @@ ghost use Rattle.printable.specs.Texts.{texts_sound};
 
 use records::contents::{EXPRESSIONS, NAMES, STATEMENTS, expr_word, name_word, offset_of, size_of};
 use records::edition::Edition;
-use records::owners::{BIN, BRANCH, CALL, OPAQUE, OTHER, UN, stmt_field, stmt_kind};
+use records::kinds::{Kind, Tag, kind_at, tag_at};
+use records::owners::stmt_field;
 
 // Whether n bytes from `start` on lie inside the text. The sum is of whole numbers.
 #[tactic(auto, unfolding(definition::specs::References::in_text))]
@@ -58,25 +59,25 @@ fn name_inside(e: Edition, f: &[u8], i: u32) -> bool
 }
 
 // A Call's target, a Branch's condition, an Other's text.
-#[tactic(auto, unfolding(definition::specs::References::stmt_text))]
+#[tactic(auto, unfolding(definition::specs::References::stmt_text, records::specs::Kinds::kind_of))]
 fn stmt_inside(e: Edition, f: &[u8], i: u32) -> bool
     ensures { result ≡ stmt_text (edition_of e) f.now i }
 {
-    match stmt_kind(f, i) {
-        CALL | OTHER => in_text(e, f, stmt_field(f, i, 0), stmt_field(f, i, 1)),
-        BRANCH => in_text(e, f, stmt_field(f, i, 1), stmt_field(f, i, 2)),
+    match kind_at(f, i) {
+        Some(Kind::Call | Kind::Other) => in_text(e, f, stmt_field(f, i, 0), stmt_field(f, i, 1)),
+        Some(Kind::Branch) => in_text(e, f, stmt_field(f, i, 1), stmt_field(f, i, 2)),
         _ => true,
     }
 }
 
 // An operator, an Opaque's text.
-#[tactic(auto, unfolding(definition::specs::References::expr_text))]
+#[tactic(auto, unfolding(definition::specs::References::expr_text, records::specs::Kinds::tag_of))]
 fn expr_inside(e: Edition, f: &[u8], i: u32) -> bool
     ensures { result ≡ expr_text (edition_of e) f.now i }
 {
-    match expr_word(f, i, 0) {
-        BIN | UN => in_text_filled(e, f, expr_word(f, i, 1), expr_word(f, i, 2)),
-        OPAQUE => in_text(e, f, expr_word(f, i, 1), expr_word(f, i, 2)),
+    match tag_at(f, i) {
+        Some(Tag::Bin | Tag::Un) => in_text_filled(e, f, expr_word(f, i, 1), expr_word(f, i, 2)),
+        Some(Tag::Opaque) => in_text(e, f, expr_word(f, i, 1), expr_word(f, i, 2)),
         _ => true,
     }
 }
