@@ -11,60 +11,54 @@ use sections::limits::{refused2, refused3};
 use shape::refused4;
 use zeros::clear;
 
-// What a file is found to be: the number of each refusal is given by `number_of`.
-#[derive(Clone, Copy)]
-pub enum Verdict {
-    Sound,
-    Lent,
-    Edition,
-    Limits,
-    Shape,
-    References,
-    Meaning,
+// Why a file is refused, by the refusal's number.
+#[derive(Clone, Copy, PartialEq, Eq)]
+pub enum Refusal {
+    Lent = 1,
+    Edition = 2,
+    Limits = 3,
+    Shape = 4,
+    References = 5,
+    Meaning = 6,
 }
 
 // The scratch that `check_file` is lent: a number for each expression that a file may have.
 pub const OWNERS: usize = 2048;
 
 // Checks 2 to 6 of an edition 1 file; the scratch ends as zeros, whatever stood there.
-pub fn check_file(f: &[u8], owners: &mut [u32]) -> Verdict
+pub fn check_file(f: &[u8], owners: &mut [u32]) -> Result<(), Refusal>
     ensures { Judged f.now result owners.old owners.new }
 {
     clear(owners);
     if owners.len() != OWNERS {
-        return Verdict::Lent;
+        return Err(Refusal::Lent);
     }
     let e = Edition::first();
     if refused2(e, f) {
-        return Verdict::Edition;
+        return Err(Refusal::Edition);
     }
     if refused3(e, f) {
-        return Verdict::Limits;
+        return Err(Refusal::Limits);
     }
     if refused4(e, f) {
-        return Verdict::Shape;
+        return Err(Refusal::Shape);
     }
     if refused5(e, f, owners) {
-        return Verdict::References;
+        return Err(Refusal::References);
     }
     if refused6(e, f, owners) {
-        return Verdict::Meaning;
+        return Err(Refusal::Meaning);
     }
-    Verdict::Sound
+    Ok(())
 }
 
-// The number of a verdict: 0, or the refusal's.
-pub fn number_of(v: Verdict) -> u32
-    ensures { result ≡ number_of v }
+// The number of an answer: 0, or the refusal's.
+pub fn number_of(r: Result<(), Refusal>) -> u32
+    ensures { result ≡ number_of r }
 {
-    match v {
-        Verdict::Sound => 0,
-        Verdict::Lent => 1,
-        Verdict::Edition => 2,
-        Verdict::Limits => 3,
-        Verdict::Shape => 4,
-        Verdict::References => 5,
-        Verdict::Meaning => 6,
+    match r {
+        Ok(()) => 0,
+        Err(refusal) => refusal as u32,
     }
 }
 

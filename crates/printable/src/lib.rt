@@ -4,60 +4,44 @@
 ghost use Rattle.std.specs.Prelude.{◌≡◌, not, ◌&&◌, eqb};
 ghost use Rattle.definition.specs.Words.{part};
 ghost use Rattle.definition.specs.Contents.{size, text, text_at};
+ghost use Rattle.definition.specs.Edition.{expressions, names, statements};
 ghost use Rattle.definition.specs.Lists.{all, all_below};
-ghost use Rattle.definition.specs.References.{in_text, printable};
+ghost use Rattle.definition.specs.References.{expr_text, in_text, name_sound, printable, stmt_text};
 ghost use Rattle.records.specs.Editions.{edition_of};
-ghost use Rattle.printable.specs.Texts.{record_word, text_of, text_inside, texts_sound};
+ghost use Rattle.printable.specs.Texts.{texts_sound};
 
-use records::contents::{
-    EXPRESSIONS, NAMES, STATEMENTS, expr_word, name_word, offset_of, size_of, stmt_word,
-};
+use records::contents::{EXPRESSIONS, NAMES, STATEMENTS, expr_word, name_word, offset_of, size_of};
 use records::edition::Edition;
-use records::owners::{BIN, BRANCH, CALL, OPAQUE, OTHER, UN, stmt_kind};
+use records::kinds::{Kind, Tag, kind_at, tag_at};
+use records::owners::stmt_field;
 
 // Whether n bytes from `start` on lie inside the text. The sum is of whole numbers.
+#[tactic(auto, unfolding(definition::specs::References::in_text))]
 fn in_text(e: Edition, f: &[u8], start: u32, n: u32) -> bool
     ensures { result ≡ in_text (edition_of e) f.now start n }
 {
-    start as u64 + n as u64 <= size_of(f, e.text()) as u64
+    u64::from(start) + u64::from(n) <= u64::from(size_of(f, e.text()))
 }
 
 // The same of a text that may not be empty: a name, an operator.
 fn in_text_filled(e: Edition, f: &[u8], start: u32, n: u32) -> bool
     ensures { result ≡ (in_text (edition_of e) f.now start n && not (eqb n 0)) }
 {
-    if n == 0 {
-        return false;
-    }
-    in_text(e, f, start, n)
+    in_text(e, f, start, n) && n != 0
 }
 
+#[tactic(auto, unfolding(definition::specs::References::printable))]
 fn is_printable(b: u8) -> bool
     ensures { result ≡ printable b }
 {
-    if b < 32 {
-        return false;
-    }
-    b <= 126
+    (32..=126).contains(&b)
 }
 
 // Whether n bytes from `start` on are printable, as far as the file has them.
 fn part_printable(f: &[u8], start: usize, n: usize) -> bool
     ensures { result ≡ all printable (part f.now start n) }
 {
-    let mut i = start;
-    let mut left = n;
-    while left > 0 {
-        if i >= f.len() {
-            return true;
-        }
-        if !is_printable(f[i]) {
-            return false;
-        }
-        i += 1;
-        left -= 1;
-    }
-    true
+    f.iter().skip(start).take(n).all(|b| is_printable(*b))
 }
 
 fn text_printable(e: Edition, f: &[u8]) -> bool
@@ -67,93 +51,58 @@ fn text_printable(e: Edition, f: &[u8]) -> bool
     part_printable(f, offset_of(f, s) as usize, size_of(f, s) as usize)
 }
 
-// The sections whose records have texts.
-#[derive(Clone, Copy)]
-enum Records {
-    Names,
-    Stmts,
-    Exprs,
+#[tactic(auto, unfolding(definition::specs::References::name_sound))]
+fn name_inside(e: Edition, f: &[u8], i: u32) -> bool
+    ensures { result ≡ name_sound (edition_of e) f.now i }
+{
+    in_text_filled(e, f, name_word(f, i, 2), name_word(f, i, 3))
 }
 
-fn record_word(f: &[u8], s: Records, i: u32, k: u32) -> u32
-    ensures { result ≡ record_word f.now s i k }
+// A Call's target, a Branch's condition, an Other's text.
+#[tactic(auto, unfolding(definition::specs::References::stmt_text, records::specs::Kinds::kind_of))]
+fn stmt_inside(e: Edition, f: &[u8], i: u32) -> bool
+    ensures { result ≡ stmt_text (edition_of e) f.now i }
 {
-    match s {
-        Records::Names => name_word(f, i, k),
-        Records::Stmts => stmt_word(f, i, k),
-        Records::Exprs => expr_word(f, i, k),
+    match kind_at(f, i) {
+        Some(Kind::Call | Kind::Other) => in_text(e, f, stmt_field(f, i, 0), stmt_field(f, i, 1)),
+        Some(Kind::Branch) => in_text(e, f, stmt_field(f, i, 1), stmt_field(f, i, 2)),
+        _ => true,
     }
 }
 
-// The words of a record at which its text's start and length stand, and whether it may be empty.
-#[derive(Clone, Copy)]
-enum Text {
-    Absent,
-    Any(u32, u32),
-    Filled(u32, u32),
-}
-
-// A name; a Call's target, a Branch's condition, an Other's text; an operator, an Opaque's text.
-fn text_of(f: &[u8], s: Records, i: u32) -> Text
-    ensures { result ≡ text_of f.now s i }
+// An operator, an Opaque's text.
+#[tactic(auto, unfolding(definition::specs::References::expr_text, records::specs::Kinds::tag_of))]
+fn expr_inside(e: Edition, f: &[u8], i: u32) -> bool
+    ensures { result ≡ expr_text (edition_of e) f.now i }
 {
-    match s {
-        Records::Names => Text::Filled(2, 3),
-        Records::Stmts => match stmt_kind(f, i) {
-            CALL => Text::Any(4, 5),
-            BRANCH => Text::Any(5, 6),
-            OTHER => Text::Any(4, 5),
-            _ => Text::Absent,
-        },
-        Records::Exprs => match expr_word(f, i, 0) {
-            BIN => Text::Filled(1, 2),
-            UN => Text::Filled(1, 2),
-            OPAQUE => Text::Any(1, 2),
-            _ => Text::Absent,
-        },
+    match tag_at(f, i) {
+        Some(Tag::Bin | Tag::Un) => in_text_filled(e, f, expr_word(f, i, 1), expr_word(f, i, 2)),
+        Some(Tag::Opaque) => in_text(e, f, expr_word(f, i, 1), expr_word(f, i, 2)),
+        _ => true,
     }
 }
 
-fn text_inside(e: Edition, f: &[u8], s: Records, i: u32) -> bool
-    ensures { result ≡ text_inside (edition_of e) f.now s i }
+fn names_inside(e: Edition, f: &[u8]) -> bool
+    ensures { result ≡ all_below (size f.now names) (name_sound (edition_of e) f.now) }
 {
-    match text_of(f, s, i) {
-        Text::Absent => true,
-        Text::Any(a, b) => in_text(e, f, record_word(f, s, i, a), record_word(f, s, i, b)),
-        Text::Filled(a, b) => in_text_filled(
-            e,
-            f,
-            record_word(f, s, i, a),
-            record_word(f, s, i, b),
-        ),
-    }
+    (0..size_of(f, NAMES)).all(|i| name_inside(e, f, i))
 }
 
-// The first n records of a section.
-fn texts_inside(e: Edition, f: &[u8], s: Records, n: u32) -> bool
-    ensures { result ≡ all_below n (text_inside (edition_of e) f.now s) }
+fn stmts_inside(e: Edition, f: &[u8]) -> bool
+    ensures { result ≡ all_below (size f.now statements) (stmt_text (edition_of e) f.now) }
 {
-    let mut i = 0;
-    while i < n {
-        if !text_inside(e, f, s, i) {
-            return false;
-        }
-        i += 1;
-    }
-    true
+    (0..size_of(f, STATEMENTS)).all(|i| stmt_inside(e, f, i))
 }
 
+fn exprs_inside(e: Edition, f: &[u8]) -> bool
+    ensures { result ≡ all_below (size f.now expressions) (expr_text (edition_of e) f.now) }
+{
+    (0..size_of(f, EXPRESSIONS)).all(|i| expr_inside(e, f, i))
+}
+
+#[tactic(auto, unfolding(crate::specs::Texts::texts_sound))]
 pub fn texts_sound(e: Edition, f: &[u8]) -> bool
     ensures { result ≡ texts_sound (edition_of e) f.now }
 {
-    if !text_printable(e, f) {
-        return false;
-    }
-    if !texts_inside(e, f, Records::Names, size_of(f, NAMES)) {
-        return false;
-    }
-    if !texts_inside(e, f, Records::Stmts, size_of(f, STATEMENTS)) {
-        return false;
-    }
-    texts_inside(e, f, Records::Exprs, size_of(f, EXPRESSIONS))
+    text_printable(e, f) && names_inside(e, f) && stmts_inside(e, f) && exprs_inside(e, f)
 }

@@ -109,17 +109,26 @@ more_all p a (suc n) =
     ap (λ (b : Bool). p a && b) h ∙ ap (λ (m : ℕ). p a && (list_all p (range_with_len (a + 1) n) && p m)) e
     ∙ sym (and_assoc (p a) (list_all p (range_with_len (a + 1) n)) (p (a + suc n)))
 
-all_listed : (p : ℕ → Bool) (n : ℕ) → list_all p (range_with_len 0 n) ≡ all_below n p
+all_listed : (p : ℕ → Bool) (a n : ℕ) → list_all p (range_with_len a n) ≡ all_below n (λ k. p (a + k))
 unfolding all_below
-all_listed p zero = refl
-all_listed p (suc n) =
-    let e : 0 + n ≡ n = omega arith in
-    more_all p 0 n ∙ ap₂ (λ (b : Bool) (m : ℕ). b && p m) (all_listed p n) e
+all_listed p a zero = refl
+all_listed p a (suc n) = more_all p a n ∙ ap (λ (b : Bool). b && p (a + n)) (all_listed p a n)
 
-pub all_upto : {F : Type 0} {g : Mut F (ℕ × Unit {0}) Bool} {s : Range ℕ} {u : Range ℕ} {f : F} {r : Bool} (p : ℕ → Bool) (n : ℕ)
-    → ((xs : List ℕ) × (o : Option ℕ) × (j : F) × YieldsThen nat_range_steps s xs o u × FoldsTo (λ p x q. Called g p (x, tt) true q) f xs j
-    × MatchOption o (r ≡ true) (λ x. (r ≡ false) × ((h : F) × Called g j (x, tt) false h)))
-    → s ≡ record { start = 0; end = n }
-    → ((x : ℕ) (b : Bool) (q : F) → Called g f (x, tt) b q → (q ≡ f) × (b ≡ p x)) → r ≡ all_below n p
-all_upto {u = u} {f = f} {r = r} p n ran e h =
-    all_from_yields_List p u f r ran (YieldsList-from_range 0 n n e (omega arith)) h ∙ all_listed p n
+-- from a on, or from 0
+module _ {F : Type 0} {g : Mut F (ℕ × Unit {0}) Bool} {s : Range ℕ} {u : Range ℕ} {f : F} {r : Bool} where
+  pub all_between : (p : ℕ → Bool) (a n : ℕ)
+      → ((xs : List ℕ) × (o : Option ℕ) × (j : F) × YieldsThen nat_range_steps s xs o u × FoldsTo (λ p x q. Called g p (x, tt) true q) f xs j
+      × MatchOption o (r ≡ true) (λ x. (r ≡ false) × ((h : F) × Called g j (x, tt) false h)))
+      → s ≡ record { start = a; end = a + n }
+      → ((x : ℕ) (b : Bool) (q : F) → Called g f (x, tt) b q → (q ≡ f) × (b ≡ p x)) → r ≡ all_below n (λ k. p (a + k))
+  all_between p a n ran e h = all_from_yields_List p u f r ran (YieldsList-from_range a (a + n) n e (omega arith)) h ∙ all_listed p a n
+
+  pub all_upto : (p : ℕ → Bool) (n : ℕ)
+      → ((xs : List ℕ) × (o : Option ℕ) × (j : F) × YieldsThen nat_range_steps s xs o u × FoldsTo (λ p x q. Called g p (x, tt) true q) f xs j
+      × MatchOption o (r ≡ true) (λ x. (r ≡ false) × ((h : F) × Called g j (x, tt) false h)))
+      → s ≡ record { start = 0; end = n }
+      → ((x : ℕ) (b : Bool) (q : F) → Called g f (x, tt) b q → (q ≡ f) × (b ≡ p x)) → r ≡ all_below n p
+  all_upto p n ran e h =
+      let k : 0 + n ≡ n = omega arith in
+      all_between p 0 n ran (e ∙ ap (λ (m : ℕ). record { start = 0; end = m }) (sym k)) h
+      ∙ all_same (λ k. p (0 + k)) p n (λ i h. let q : 0 + i ≡ i = omega arith in ap p q)

@@ -6,7 +6,6 @@ use Prim.Native.Nat.{ℕ, ◌+◌, ◌*◌, ◌/◌, ◌%◌, ◌≤◌, ◌<◌
 use native.Mathlib.Nat.{mul-le-mul}
 use native.Mathlib.Omega.{arith}
 use lib.Dec.{eqb}
-use borrow.Author.Tests.{ne_eqb}
 use Rattle.definition.specs.Contents.{offset, place, stmt_word}
 use Rattle.definition.specs.Owners.{stmt_kind, stmt_field, expr_items, value_items, items}
 use Rattle.definition.specs.Read.{marked}
@@ -31,21 +30,6 @@ module _ (f : List ℕ) (i k n : ℕ) (kind : k ≡ stmt_kind f i) where
   pub kind_exprs : (m : ℕ) → k ≡ m → n ≡ expr_field m → n ≡ expr_items f i
   unfolding expr_items
   kind_exprs m e h = h ∙ ap expr_field (sym e ∙ kind)
-
-  pub no_exprs : (k ≡ 3 → ⊥) → (k ≡ 4 → ⊥) → (k ≡ 7 → ⊥) → 0 ≡ expr_items f i
-  unfolding expr_items
-  no_exprs a b c = rw (← kind, ne_eqb k 3 a, ne_eqb k 4 b, ne_eqb k 7 c)
-
-  abbrev pub value_field : ℕ → ℕ
-  value_field m = cond (eqb m 3) (stmt_field f i 6) (cond (eqb m 7) (stmt_field f i 3) 0)
-
-  pub kind_values : (m : ℕ) → k ≡ m → n ≡ value_field m → n ≡ value_items f i
-  unfolding value_items
-  kind_values m e h = h ∙ ap value_field (sym e ∙ kind)
-
-  pub no_values : (k ≡ 3 → ⊥) → (k ≡ 7 → ⊥) → 0 ≡ value_items f i
-  unfolding value_items
-  no_values a c = rw (← kind, ne_eqb k 3 a, ne_eqb k 7 c)
 
 pub both_items : (f : List ℕ) (i a b : ℕ) → a ≡ expr_items f i → b ≡ value_items f i → a + b ≡ items f i
 unfolding items

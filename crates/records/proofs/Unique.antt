@@ -7,7 +7,11 @@ use Rattle.definition.specs.Contents.{contents, text, offset, size, place, arg_a
 use Rattle.definition.specs.Contents.{block_long, stmt_long, expr_long, name_long}
 use Rattle.definition.specs.Owners.{stmt_kind, stmt_field, expr_items, value_items, items, block_phis, block_stmts, phi_inputs}
 use Rattle.definition.specs.Read.{marked}
+use Rattle.std.specs.Prelude.{Option}
 use Rattle.records.specs.declared.edition.Edition.{Edition}
+use Rattle.records.specs.declared.kinds.Kind.{Kind}
+use Rattle.records.specs.declared.kinds.Tag.{Tag}
+use Rattle.records.specs.Kinds.{kind_of, tag_of}
 use Rattle.records.specs.Editions.{edition_of, words_at, limit_at}
 
 module _ (e : Edition) (r s : ℕ) where
@@ -89,6 +93,12 @@ module _ (f : List ℕ) (i r s : ℕ) where
 
   pub phi_inputs_lem : r ≡ phi_inputs f i → s ≡ phi_inputs f i → r ≡ s
   phi_inputs_lem p q = p ∙ sym q
+
+pub kind_at_lem : (f : List ℕ) (i : ℕ) (r s : Option Kind) → r ≡ kind_of (stmt_kind f i) → s ≡ kind_of (stmt_kind f i) → r ≡ s
+kind_at_lem f i r s p q = p ∙ sym q
+
+pub tag_at_lem : (f : List ℕ) (i : ℕ) (r s : Option Tag) → r ≡ tag_of (expr_word f i 0) → s ≡ tag_of (expr_word f i 0) → r ≡ s
+tag_at_lem f i r s p q = p ∙ sym q
 
 -- a number of a record, however it is read
 pub field : {A : Type 0} (at : List ℕ → ℕ → A) (f : List ℕ) (t w i k : ℕ) (r s : A) → r ≡ at f (place f t w i k) → s ≡ at f (place f t w i k) → r ≡ s

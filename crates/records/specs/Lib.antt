@@ -1,2 +1,3 @@
 pub mod Editions
+pub mod Kinds
 pub mod Options

@@ -3,4 +3,5 @@
 
 pub mod contents;
 pub mod edition;
+pub mod kinds;
 pub mod owners;

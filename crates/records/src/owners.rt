@@ -4,6 +4,7 @@ ghost use Rattle.definition.specs.Owners.{stmt_kind, stmt_field, expr_items, val
 ghost use Rattle.definition.specs.Read.{marked};
 
 use crate::contents::{block_word, phi_word, stmt_word};
+use crate::kinds::{Kind, kind_at};
 
 // The kinds of statements.
 pub const ASSIGN: u32 = 1;
@@ -70,34 +71,27 @@ pub fn stmt_field(f: &[u8], i: u32, k: u32) -> u32
 }
 
 // How many list items of statement i are expressions; they come first.
+#[tactic(auto, unfolding(definition::specs::Owners::expr_items, crate::specs::Kinds::kind_of))]
 pub fn expr_items(f: &[u8], i: u32) -> u32
     ensures { result ≡ expr_items f.now i }
 {
-    let k = stmt_kind(f, i);
-    if k == CALL {
-        return stmt_field(f, i, 2);
+    match kind_at(f, i) {
+        Some(Kind::Call | Kind::Other) => stmt_field(f, i, 2),
+        Some(Kind::Branch) => stmt_field(f, i, 6),
+        _ => 0,
     }
-    if k == BRANCH {
-        return stmt_field(f, i, 6);
-    }
-    if k == OTHER {
-        return stmt_field(f, i, 2);
-    }
-    0
 }
 
 // How many are values.
+#[tactic(auto, unfolding(definition::specs::Owners::value_items, crate::specs::Kinds::kind_of))]
 pub fn value_items(f: &[u8], i: u32) -> u32
     ensures { result ≡ value_items f.now i }
 {
-    let k = stmt_kind(f, i);
-    if k == CALL {
-        return stmt_field(f, i, 6);
+    match kind_at(f, i) {
+        Some(Kind::Call) => stmt_field(f, i, 6),
+        Some(Kind::Other) => stmt_field(f, i, 3),
+        _ => 0,
     }
-    if k == OTHER {
-        return stmt_field(f, i, 3);
-    }
-    0
 }
 
 pub fn items_of(f: &[u8], i: u32) -> u64

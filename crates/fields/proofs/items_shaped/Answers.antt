@@ -1,28 +1,23 @@
-use borrow.Author.Tests.{eq-eqb, ne_eqb}
+-- A statement's items end below 2^32, and those that are expressions come first.
+use Rattle.std.proofs.Common.{rules}
+use borrow.Author.Tests.{tests}
+use Prim.Native.Nat.{ℕ}
+use lib.Dec.{eqb}
 use native.Mathlib.Omega.{arith}
-use Prim.Native.Nat.{◌-◌}
-use mathlib.Core.Path.{refl, sym, ◌∙◌}
-use mathlib.Core.Bool.{true}
-use Rattle.fields.proofs.Fields.{items_is, item_word_lem, cut_exprs}
-use Rattle.records.proofs.Below.{all_start, all_turn, all_fail, all_done}
+use Rattle.definition.specs.Contents.{item_word}
+use Rattle.definition.specs.Owners.{items}
+use Rattle.definition.specs.Shape.{items_shaped}
+use Rattle.records.proofs.Below.{all_between}
 use Rattle.fields.proofs.items_shaped.Goals as goal
 
-pub loop-k-init : goal.loop-k-init
-loop-k-init c = (all_start _, omega arith, c.expr_items-n.ensures)
-
-pub overflow_add-at : goal.overflow_add-at
-overflow_add-at c = let a = c.args in omega (arith, cut_exprs a.f.now a.i a.at c.requires)
-
-pub overflow_cast-at : goal.overflow_cast-at
-overflow_cast-at c = let a = c.args in omega (arith, cut_exprs a.f.now a.i a.at c.requires)
-
-pub returns-then-item_word-ne0 : goal.returns-then-item_word-ne0
-returns-then-item_word-ne0 c = let test = item_word_lem _ _ _ c.loop-k.k _ c.requires.first c.item_word.ensures in
-    all_fail _ c.loop-k.invariant.2 (sym (ne_eqb _ 0 c.if-item_word-ne0.true) ∙ test) c.loop-k-test.true refl ∙ sym (items_is _ _)
-
-pub loop-k-preserved : goal.loop-k-preserved
-loop-k-preserved c = let test = item_word_lem _ _ _ c.loop-k.k _ c.requires.first c.item_word.ensures in
-    (all_turn _ (sym (eq-eqb _ 0 c.if-item_word-ne0.false) ∙ test) c.loop-k.invariant.0 refl, omega arith, c.loop-k.invariant.2)
+pub overflow_add-first : goal.overflow_add-first
+unfolding items
+overflow_add-first c = let h = c.requires.within in omega arith
 
 pub returns : goal.returns
-returns c = all_done _ c.loop-k.invariant.2 c.loop-k.invariant.0 (omega arith) ∙ sym (items_is _ _)
+unfolding items_shaped
+returns c =
+    let first = c.requires.first in
+    let n = c.expr_items.ensures in
+    let e = all_between (λ (k : ℕ). eqb (item_word c.args.f.now k 1) 0) c.args.at c.expr_items.result c.all.ensures.ran (cc) (λ x b q k. search (rules, tests)) in
+    rw (← n, ← first) e

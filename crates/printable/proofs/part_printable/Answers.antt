@@ -1,20 +1,18 @@
-use borrow.Author.Tests.{not-true, not-false}
-use native.Mathlib.Omega.{arith}
-use mathlib.Core.Path.{refl, sym, ◌∙◌}
-use Rattle.printable.proofs.Texts.{part_turn, part_fail, part_past, part_end}
+-- The bytes that are looked at are those of the part.
+use Rattle.std.proofs.Common.{rules}
+use Rattle.std.proofs.lemmas.Iterator.{YieldsList-from_slice, YieldsList-from_take}
+use Rattle.std.proofs.lemmas.Iterator.Adapters.{YieldsList-from_skip}
+use Rattle.std.proofs.lemmas.Iterator.Search.{all_from_yields_List}
+use borrow.Author.Tests.{tests}
+use mathlib.Core.Path.{◌∙◌}
+use Rattle.definition.specs.References.{printable}
+use Rattle.definition.specs.Words.{part}
+use Rattle.printable.proofs.Texts.{all_listed}
 use Rattle.printable.proofs.part_printable.Goals as goal
 
-pub loop-left-init : goal.loop-left-init
-loop-left-init c = refl
-
-pub returns-then-i-f : goal.returns-then-i-f
-returns-then-i-f c = part_past _ _ _ (omega arith) ∙ sym c.loop-left.invariant
-
-pub returns-then-not-is_printable : goal.returns-then-not-is_printable
-returns-then-not-is_printable c = part_fail _ _ _ (omega arith) (omega arith) (sym c.is_printable.ensures ∙ c.if-not-is_printable.true) ∙ sym c.loop-left.invariant
-
-pub loop-left-preserved : goal.loop-left-preserved
-loop-left-preserved c = c.loop-left.invariant ∙ part_turn _ _ _ (omega arith) (omega arith) (sym c.is_printable.ensures ∙ c.if-not-is_printable.false)
-
 pub returns : goal.returns
-returns c = part_end _ _ _ (omega arith) ∙ sym c.loop-left.invariant
+unfolding part
+returns c =
+    all_from_yields_List printable _ _ _ c.all.ensures.ran
+    (YieldsList-from_take c.args.n (YieldsList-from_skip c.args.start (YieldsList-from_slice c.args.f.now cc) (cc)) (cc)) (λ x b q k. search (rules, tests))
+    ∙ all_listed printable _

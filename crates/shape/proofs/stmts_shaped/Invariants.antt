@@ -1,5 +1,4 @@
 -- The first i statements have their shape and `at` is where the next one's items begin, within 32 bits since all items are owned.
-use Prim.Native.Nat.{◌-◌, ◌≤◌}
 use mathlib.Core.Path.{◌≡◌}
 use mathlib.Core.Bool.{true}
 use Rattle.definition.specs.Shape.{stmt_shaped}
@@ -8,7 +7,4 @@ use Rattle.definition.specs.Lists.{all_below}
 use Rattle.shape.proofs.stmts_shaped.Given as goal
 
 abbrev pub invariant-loop-i : goal.invariant-loop-i
-invariant-loop-i l = (all_below l.i (stmt_shaped l.f) ≡ true) × (l.at ≡ first_item l.f l.i) × (l.i ≤ l.n)
-
-abbrev pub decreases-loop-i : goal.decreases-loop-i
-decreases-loop-i l = l.n - l.i
+invariant-loop-i l = (all_below l.i (stmt_shaped l.f) ≡ true) × (l.at ≡ first_item l.f l.i)
