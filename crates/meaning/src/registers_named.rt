@@ -3,16 +3,16 @@ ghost use Rattle.std.specs.Prelude.{◌≡◌, true, map, ◌++◌, ◌+◌, ◌
 ghost use Rattle.definition.specs.Edition.{phis, statements, expressions};
 ghost use Rattle.definition.specs.Lists.{all, all_below, gather, range};
 ghost use Rattle.definition.specs.Contents.{size};
-ghost use Rattle.definition.specs.Owners.{first_item};
 ghost use Rattle.definition.specs.Shape.{owned};
 ghost use Rattle.definition.specs.Meaning.{is_register, arg_regs, phi_value, assigned, call_returns, item_values, strict, loose, use_register, registers};
 ghost use Rattle.defined.specs.Defined.{item_value};
 ghost use Rattle.each.specs.Rules.{named};
 
-use defined::value::{assigned_by, item_value, next_item, phi_value, returned_by};
+use defined::statement::{Statement, Statements};
+use defined::value::{assigned_by, item_value, phi_value, returned_by};
 use each::{defined_named, is_register, use_named};
 use records::contents::{ARGS, EXPRESSIONS, PHIS, STATEMENTS, arg_at, size_of};
-use records::owners::{expr_items, value_items};
+use records::owners::value_items;
 
 fn args_named(f: &[u8]) -> bool
     ensures { result ≡ all is_register (arg_regs f.now) }
@@ -52,26 +52,19 @@ fn items_named(f: &[u8], from: u32, n: u32) -> bool
     (0..n).all(|k| is_register(item_value(f, from + k).reg))
 }
 
-// What a Call or an Other defines; its items begin at place `at`.
-fn loose_named_at(f: &[u8], i: u32, at: u32) -> bool
-    requires { (owned f.now ≡ true) × (i < size f.now statements) × (at ≡ first_item f.now i) }
-    ensures { result ≡ all named (call_returns f.now i ++ item_values f.now i) }
+// What a Call or an Other defines.
+fn loose_named_at(s: Statement) -> bool
+    ensures { result ≡ all named (call_returns s.entry.f.now s.entry.i ++ item_values s.entry.f.now s.entry.i) }
 {
-    defined_named(returned_by(f, i)) && items_named(f, at + expr_items(f, i), value_items(f, i))
+    defined_named(returned_by(s.f, s.i))
+        && items_named(s.f, s.first_value(), value_items(s.f, s.i))
 }
 
 fn loose_named(f: &[u8]) -> bool
     requires { owned f.now ≡ true }
     ensures { result ≡ all named (loose f.now) }
 {
-    let mut at = 0;
-    for i in 0..size_of(f, STATEMENTS) {
-        if !loose_named_at(f, i, at) {
-            return false;
-        }
-        at = next_item(f, i, at);
-    }
-    true
+    Statements::of(f).all(|s| loose_named_at(s))
 }
 
 pub fn registers_named(f: &[u8]) -> bool
