@@ -1,15 +1,14 @@
 -- How often a value is defined: the sums over places are the definition's count.
-use mathlib.Core.Path.{◌≡◌, refl, sym, ap, ap₂, ◌∙◌}
+use mathlib.Core.Path.{◌≡◌, refl, ap, ap₂, ◌∙◌}
 use mathlib.Core.Bool.{Bool, true, false, cond, not, ◌&&◌}
 use mathlib.Core.List.{List, ◌++◌, map}
 use Prim.Native.Nat.{ℕ, ◌+◌, ◌≤◌}
 use native.Mathlib.Omega.{arith}
 use lib.Dec.{eqb}
-use borrow.Author.Tests.{eq-eqb, ne_eqb}
 use Rattle.definition.specs.Edition.{phis, statements}
 use Rattle.definition.specs.Lists.{all, count, gather, range, all_below, sum_below}
 use Rattle.definition.specs.Contents.{size}
-use Rattle.definition.specs.Owners.{expr_items, value_items, first_item}
+use Rattle.definition.specs.Owners.{value_items}
 use Rattle.definition.specs.Values.{Value, eqv}
 use Rattle.definition.specs.Meaning.{phi_value, assigned, call_returns, item_values, strict, loose, defined_once, value_at}
 use Rattle.std.specs.Prelude.{Option, Some, None}
@@ -79,14 +78,6 @@ module _ (f : List ℕ) (v : Value) where
       let a = strict_count in
       let b = loose_count in
       let c = count_append (eqv v) (strict f) (loose f) in
-      omega arith
-
-  -- ---- the returns of the functions that count
-  pub stmt_hits_lem : (i at x n a b k : ℕ) → at ≡ first_item f i → x ≡ expr_items f i → n ≡ value_items f i → a ≡ count (eqv v) (assigned f i)
-      → b ≡ count (eqv v) (call_returns f i) → k ≡ item_hits f v (at + x) n → a + b + k ≡ stmt_hits f v i
-  unfolding stmt_hits first_value
-  stmt_hits_lem i at x n a b k p q r s t u =
-      let w : k ≡ item_hits f v (first_item f i + expr_items f i) (value_items f i) = u ∙ ap₂ (item_hits f v) (ap₂ (λ (m n : ℕ). m + n) p q) r in
       omega arith
 
   pub lone_is : lone f v ≡ (not (eqb v.ver 0) && eqb (phi_hits f v (size f phis) + sum_below (size f statements) (stmt_hits f v)) 1)

@@ -6,7 +6,7 @@ use Prim.Native.Nat.{ℕ, ◌+◌}
 use Rattle.definition.specs.Edition.{phis, statements}
 use Rattle.definition.specs.Lists.{all, gather, range, all_below}
 use Rattle.definition.specs.Contents.{size}
-use Rattle.definition.specs.Owners.{expr_items, value_items, first_item}
+use Rattle.definition.specs.Owners.{value_items}
 use Rattle.definition.specs.Values.{Value}
 use Rattle.definition.specs.Meaning.{phi_value, assigned, call_returns, item_values, strict, loose, value_at}
 use Rattle.defined.specs.Defined.{value_of, list_of, item_value, first_value}
@@ -33,11 +33,8 @@ module _ (f : List ℕ) (p : Value → Bool) where
   unfolding item_values value_at first_value
   items_all i = all_map p (λ k. item_value f (first_value f i + k)) (value_items f i)
 
-  pub loose_parts : (i at x n : ℕ) → at ≡ first_item f i → x ≡ expr_items f i → n ≡ value_items f i
-      → loose_at i ≡ (all p (call_returns f i) && all_below n (λ k. p (item_value f (at + x + k))))
-  unfolding first_value
-  loose_parts i at x n a b c =
-      rw (a, b, c) (all_append p (call_returns f i) (item_values f i) ∙ ap (λ (t : Bool). all p (call_returns f i) && t) (items_all i))
+  pub loose_parts : (i from n : ℕ) → from ≡ first_value f i → n ≡ value_items f i → loose_at i ≡ (all p (call_returns f i) && all_below n (λ k. p (item_value f (from + k))))
+  loose_parts i from n a b = rw (a, b) (all_append p (call_returns f i) (item_values f i) ∙ ap (λ (t : Bool). all p (call_returns f i) && t) (items_all i))
 
 -- what a statement defines by its own fields
 pub defined_all : (p : Value → Bool) (d : Option CValue) {r : Bool} {Q : CValue → Type 0} → MatchOption d (r ≡ true) Q → ((v : CValue) → Q v → r ≡ p (value_of v)) → r ≡ all p (list_of d)

@@ -8,7 +8,9 @@ use Rattle.definition.specs.Values.{Value as DValue, eqv}
 use Rattle.definition.specs.Meaning.{phi_value, assigned, call_returns}
 use Rattle.std.specs.Prelude.{Option, Some, None}
 use Rattle.defined.specs.declared.value.Value.{Value}
-use Rattle.defined.specs.Defined.{value_of, list_of, item_value}
+use Rattle.defined.specs.Defined.{value_of, list_of, item_value, first_value}
+use Rattle.defined.specs.declared.statement.Statements.{Statements}
+use Rattle.defined.specs.Statements.{left, Begins}
 
 -- ---- the views
 same_view : (v w : Value) → value_of v ≡ value_of w → v ≡ w
@@ -39,3 +41,10 @@ module _ (f : List ℕ) (i : ℕ) where
 
   pub next_item : (r s : ℕ) → r ≡ first_item f (i + 1) → s ≡ first_item f (i + 1) → r ≡ s
   next_item r s p q = p ∙ sym q
+
+  pub first_value_lem : (r s : ℕ) → r ≡ first_value f i → s ≡ first_value f i → r ≡ s
+  first_value_lem r s p q = p ∙ sym q
+
+-- ---- statements: the file, the next one, and how many are left
+pub statements_of : (f : List ℕ) (s t : Statements) → Begins f s → Begins f t → (s.f.now ≡ t.f.now) × (s.i ≡ t.i) × (left s ≡ left t)
+statements_of f s t p q = (p.file ∙ sym q.file, p.first ∙ sym q.first, p.many ∙ sym q.many)

@@ -1,10 +1,9 @@
 -- What each return of the functions on values comes to, over plain numbers and lists.
 use mathlib.Core.Path.{◌≡◌, refl, ap₂}
-use mathlib.Core.Bool.{Bool, true, false}
+use mathlib.Core.Bool.{true}
 use mathlib.Core.List.{List, [], ◌∷◌}
 use Prim.Native.Nat.{ℕ, ◌+◌, ◌<◌}
 use native.Mathlib.Omega.{arith}
-use lib.Dec.{eqb}
 use lib.ListN.{get_or}
 use mir.Syntax.{w8}
 use mir.Val.{Fits}
@@ -13,19 +12,10 @@ use Rattle.definition.specs.Edition.{statements}
 use Rattle.definition.specs.Contents.{size}
 use Rattle.definition.specs.Owners.{stmt_kind, stmt_field, expr_items, value_items, first_item}
 use Rattle.definition.specs.Shape.{owned}
-use Rattle.definition.specs.Values.{Value, value, eqv}
+use Rattle.definition.specs.Values.{value}
 use Rattle.definition.specs.Meaning.{assigned, call_returns}
 use Rattle.records.proofs.Laws.{both_items}
 use Rattle.records.proofs.Items.{first_turn, items_few, items_fit, exprs_fit}
-
--- ---- equal values, by their parts
-pub other_reg : (a b : Value) → (a.reg ≡ b.reg → ⊥) → false ≡ eqv a b
-unfolding eqv
-other_reg a b h = rw (ne_eqb a.reg b.reg h)
-
-pub same_reg : (a b : Value) (t : Bool) → a.reg ≡ b.reg → t ≡ eqb a.ver b.ver → t ≡ eqv a b
-unfolding eqv
-same_reg a b t h e = rw (eq-eqb a.reg b.reg h) e
 
 -- ---- of statement i, whose kind k was read
 module _ (f : List ℕ) (i k : ℕ) (kind : k ≡ stmt_kind f i) where

@@ -11,11 +11,10 @@ ghost use Rattle.definition.specs.Values.{eqv};
 ghost use Rattle.definition.specs.Meaning.{phi_value, assigned, defined_once};
 ghost use Rattle.defined.specs.Defined.{value_of, list_of, lone, hit, phi_hits, item_hits, stmt_hits};
 
-use defined::value::{
-    Value, assigned_by, item_value, next_item, phi_value, returned_by, same_value,
-};
+use defined::statement::{Statement, Statements};
+use defined::value::{Value, assigned_by, item_value, phi_value, returned_by, same_value};
 use records::contents::{PHIS, STATEMENTS, size_of};
-use records::owners::{expr_items, value_items};
+use records::owners::value_items;
 
 // 1 where the two are equal.
 #[tactic(auto, using(std::proofs::lemmas::Bool::Decides::nat_tests), unfolding(defined::specs::Defined::hit))]
@@ -54,13 +53,12 @@ fn item_hits(f: &[u8], v: Value, from: u32, n: u32) -> u32
     sum
 }
 
-// How often statement i, whose items begin at place `at`, defines v.
-fn stmt_hits(f: &[u8], v: Value, i: u32, at: u32) -> u64
-    requires { (owned f.now ≡ true) × (i < size f.now statements) × (at ≡ first_item f.now i) }
-    ensures { (result ≡ stmt_hits f.now (value_of v) i) × (at + result ≤ first_item f.now (i + 1) + 2) }
+// How often a statement defines v.
+fn stmt_hits(v: Value, s: Statement) -> u64
+    ensures { (result ≡ stmt_hits s.entry.f.now (value_of v) s.entry.i) × (s.entry.at + result ≤ first_item s.entry.f.now (s.entry.i + 1) + 2) }
 {
-    let own = defined_hits(assigned_by(f, i), v) + defined_hits(returned_by(f, i), v);
-    let items = item_hits(f, v, at + expr_items(f, i), value_items(f, i));
+    let own = defined_hits(assigned_by(s.f, s.i), v) + defined_hits(returned_by(s.f, s.i), v);
+    let items = item_hits(s.f, v, s.first_value(), value_items(s.f, s.i));
     own as u64 + items as u64
 }
 
@@ -69,10 +67,8 @@ fn stmts_hits(f: &[u8], v: Value) -> u64
     ensures { (result ≡ sum_below (size f.now statements) (stmt_hits f.now (value_of v))) × (result < 17179869184) }
 {
     let mut sum = 0;
-    let mut at = 0;
-    for i in 0..size_of(f, STATEMENTS) {
-        sum += stmt_hits(f, v, i, at);
-        at = next_item(f, i, at);
+    for s in Statements::of(f) {
+        sum += stmt_hits(v, s);
     }
     sum
 }

@@ -5,16 +5,16 @@ ghost use Rattle.std.specs.Prelude.{◌≡◌, true, ◌++◌, map, ◌+◌, ◌
 ghost use Rattle.definition.specs.Edition.{phis, statements};
 ghost use Rattle.definition.specs.Lists.{all, gather, range, all_below};
 ghost use Rattle.definition.specs.Contents.{size};
-ghost use Rattle.definition.specs.Owners.{first_item};
 ghost use Rattle.definition.specs.Shape.{owned};
 ghost use Rattle.definition.specs.Meaning.{phi_value, assigned, call_returns, item_values, strict, loose, defined_once};
 ghost use Rattle.defined.specs.Defined.{value_of, list_of, item_value};
 ghost use Rattle.slots.specs.Slots.{place, mask, free, slots, taken, takes};
 
-use defined::value::{Value, assigned_by, item_value, next_item, phi_value, returned_by};
+use defined::statement::{Statement, Statements};
+use defined::value::{Value, assigned_by, item_value, phi_value, returned_by};
 use once::scan_once;
 use records::contents::{PHIS, STATEMENTS, size_of};
-use records::owners::{expr_items, value_items};
+use records::owners::value_items;
 use zeros::clear;
 
 // The entry with the slot of v: 128 for each register.
@@ -100,27 +100,19 @@ fn items_free(table: &[u32], f: &[u8], from: u32, n: u32) -> bool
     (0..n).all(|k| is_free(table, item_value(f, from + k)))
 }
 
-// What a Call or an Other defines; its items begin at place `at`.
-fn loose_free_at(table: &[u32], f: &[u8], i: u32, at: u32) -> bool
-    requires { (owned f.now ≡ true) × (i < size f.now statements) × (at ≡ first_item f.now i) }
-    ensures { result ≡ all (free table.now) (call_returns f.now i ++ item_values f.now i) }
+// What a Call or an Other defines.
+fn loose_free_at(table: &[u32], s: Statement) -> bool
+    ensures { result ≡ all (free table.now) (call_returns s.entry.f.now s.entry.i ++ item_values s.entry.f.now s.entry.i) }
 {
-    defined_free(table, returned_by(f, i))
-        && items_free(table, f, at + expr_items(f, i), value_items(f, i))
+    defined_free(table, returned_by(s.f, s.i))
+        && items_free(table, s.f, s.first_value(), value_items(s.f, s.i))
 }
 
 fn loose_free(table: &[u32], f: &[u8]) -> bool
     requires { owned f.now ≡ true }
     ensures { result ≡ all (free table.now) (loose f.now) }
 {
-    let mut at = 0;
-    for i in 0..size_of(f, STATEMENTS) {
-        if !loose_free_at(table, f, i, at) {
-            return false;
-        }
-        at = next_item(f, i, at);
-    }
-    true
+    Statements::of(f).all(|s| loose_free_at(table, s))
 }
 
 // Whether the slots alone tell that each value is defined once.

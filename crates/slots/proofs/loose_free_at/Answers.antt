@@ -5,25 +5,18 @@ use Rattle.std.proofs.lemmas.Bool.Decides.{nat_tests}
 use Rattle.definition.specs.Lists.{all}
 use Rattle.slots.specs.Slots.{free}
 use Rattle.defined.proofs.Tested.{loose_parts}
-use Rattle.defined.proofs.Values.{exprs_small, items_small}
 use Rattle.slots.proofs.loose_free_at.Goals as goal
-
-pub overflow_add-at : goal.overflow_add-at
-overflow_add-at c = omega (arith, exprs_small _ _ _ _ c.type_inv.f c.requires c.expr_items.ensures)
-
-pub items_free-requires : goal.items_free-requires
-items_free-requires c = items_small _ _ _ _ c.type_inv.f c.requires c.expr_items.ensures _ c.value_items.ensures
 
 pub returns-then-defined_free : goal.returns-then-defined_free
 returns-then-defined_free c =
     let p = free c.args.table.now in
-    let e = loose_parts c.args.f.now p _ _ _ _ c.requires.2 c.expr_items.ensures c.value_items.ensures in
+    let e = loose_parts c.args.s.f.now p c.args.s.i _ _ c.first_value.ensures.place c.value_items.ensures in
     let d = ap (all p) c.returned_by.ensures in
     grind (arith, nat_tests)
 
 pub returns-else-defined_free : goal.returns-else-defined_free
 returns-else-defined_free c =
     let p = free c.args.table.now in
-    let e = loose_parts c.args.f.now p c.args.i _ _ _ refl refl refl in
+    let e = loose_parts c.args.s.f.now p c.args.s.i _ _ refl refl in
     let d = ap (all p) c.returned_by.ensures in
     grind (arith, nat_tests)
