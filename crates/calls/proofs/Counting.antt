@@ -2,12 +2,11 @@
 use mathlib.Core.Path.{◌≡◌, refl, sym, ap, ap₂, ◌∙◌}
 use mathlib.Core.Bool.{Bool, true, false, cond, ◌||◌, or-false}
 use mathlib.Core.List.{List, [], ◌∷◌, ◌++◌, map, map-append}
-use Prim.Native.Nat.{ℕ, zero, suc, ◌-◌, ◌≤◌, ◌<◌}
-use native.Mathlib.Decide.{dec_le}
+use Prim.Native.Nat.{ℕ, suc, max, ◌+◌, ◌-◌, ◌≤◌, ◌<◌}
 use native.Mathlib.Omega.{arith}
 use lib.Dec.{eqb}
 use lib.ListN.{length}
-use borrow.Author.Tests.{le-leb, lt-leb, eq-eqb, ne_eqb}
+use borrow.Author.Tests.{eq-eqb, ne_eqb}
 use Rattle.definition.specs.Edition.{Edition, args}
 use Rattle.definition.specs.Lists.{any, among, range}
 use Rattle.definition.specs.Contents.{size, arg_at}
@@ -20,28 +19,7 @@ use Rattle.definition.specs.Blocks.{set_after}
 use Rattle.definition.proofs.Bools.{by_test, both_false, eqb_swap}
 use Rattle.records.proofs.Ranges.{range_last}
 use Rattle.values.proofs.Ranges.{map_length}
-use Rattle.calls.specs.Numbered.{greater}
 use Rattle.calls.proofs.Recorded.{by_kind}
-
--- ---- the greater of two numbers
-pub greater_right : (a b : ℕ) → a ≤ b → b ≡ greater a b
-unfolding greater
-greater_right a b h = rw (le-leb a b h)
-
-pub greater_left : (a b : ℕ) → b < a → a ≡ greater a b
-unfolding greater
-greater_left a b h = rw (lt-leb a b h)
-
-greater_zero : (a : ℕ) → greater a 0 ≡ a
-greater_zero zero = sym (greater_right 0 0 (omega arith))
-greater_zero (suc a) = sym (greater_left (suc a) 0 (omega arith))
-
-greater_suc : (a b : ℕ) → suc (greater a b) ≡ greater (suc a) (suc b)
-greater_suc a b = go (dec_le a b)
-  where
-    go : Dec (a ≤ b) → suc (greater a b) ≡ greater (suc a) (suc b)
-    go (yes h) = omega (arith, greater_right a b h, greater_right (suc a) (suc b) (omega arith))
-    go (no h) = omega (arith, greater_left a b (omega arith), greater_left (suc a) (suc b) (omega arith))
 
 -- ---- tests over lists
 any_same : (p q : ℕ → Bool) → ((x : ℕ) → p x ≡ q x) → (xs : List ℕ) → any p xs ≡ any q xs
@@ -108,20 +86,20 @@ up_last p (x ∷ xs) y =
     always true n = refl
     always false n = refl
 
--- either of two tests: the greater
-up_or : (p q : ℕ → Bool) (xs : List ℕ) → up_to (λ x. p x || q x) xs ≡ greater (up_to q xs) (up_to p xs)
+-- either of two tests: the max
+up_or : (p q : ℕ → Bool) (xs : List ℕ) → up_to (λ x. p x || q x) xs ≡ max (up_to q xs) (up_to p xs)
 unfolding up_to
-up_or p q [] = sym (greater_zero 0)
+up_or p q [] = refl
 up_or p q (x ∷ xs) =
     rw (any_or p q xs, shuffle (p x) (q x) (any p xs) (any q xs), up_or p q xs)
     (go (p x || any p xs) (q x || any q xs) (up_to p xs) (up_to q xs)
     (λ h. up_none p xs (both_false (p x) (any p xs) h).1) (λ h. up_none q xs (both_false (q x) (any q xs) h).1))
   where
-    go : (b c : Bool) (m n : ℕ) → (b ≡ false → m ≡ 0) → (c ≡ false → n ≡ 0) → cond (b || c) (suc (greater n m)) 0 ≡ greater (cond c (suc n) 0) (cond b (suc m) 0)
-    go true true m n h k = greater_suc n m
-    go true false m n h k = rw (k refl) (greater_suc 0 m ∙ omega (arith, greater_right 1 (suc m) (omega arith), greater_right 0 (suc m) (omega arith)))
-    go false true m n h k = rw (h refl) (ap suc (greater_zero n) ∙ sym (greater_zero (suc n)))
-    go false false m n h k = sym (greater_zero 0)
+    go : (b c : Bool) (m n : ℕ) → (b ≡ false → m ≡ 0) → (c ≡ false → n ≡ 0) → cond (b || c) (suc (max n m)) 0 ≡ max (cond c (suc n) 0) (cond b (suc m) 0)
+    go true true m n h k = omega arith
+    go true false m n h k = let e : n ≡ 0 = k refl in omega arith
+    go false true m n h k = let e : m ≡ 0 = h refl in omega arith
+    go false false m n h k = refl
 
 -- ---- the registers that are set
 -- none at first
@@ -130,13 +108,13 @@ unfolding among any
 count_none xs = count_is [] xs ∙ up_none (λ q. among q []) xs (any_never (λ q. among q []) (λ x. refl) xs)
 
 -- one more
-pub count_more : (r : ℕ) (set xs : List ℕ) → count_set (r ∷ set) xs ≡ greater (count_set set xs) (count_set (r ∷ []) xs)
+pub count_more : (r : ℕ) (set xs : List ℕ) → count_set (r ∷ set) xs ≡ max (count_set set xs) (count_set (r ∷ []) xs)
 unfolding among any
 count_more r set xs =
     count_is (r ∷ set) xs
     ∙ up_same (λ q. among q (r ∷ set)) (λ q. among q (r ∷ []) || among q set) (λ q. either (eqb q r) (among q set)) xs
     ∙ up_or (λ q. among q (r ∷ [])) (λ q. among q set) xs
-    ∙ sym (ap₂ greater (count_is set xs) (count_is (r ∷ []) xs))
+    ∙ sym (ap₂ max (count_is set xs) (count_is (r ∷ []) xs))
   where
     either : (a b : Bool) → (a || b) ≡ ((a || false) || b)
     either true b = refl
@@ -167,8 +145,8 @@ module _ (f : List ℕ) (v : ℕ) where
       ∙ rw (← e, map_length (arg_at f) 0 (i - 1), ← k)
 
   module _ (i r : ℕ) (so : r ≡ count_set (v ∷ []) (map (arg_at f) (range 0 i))) where
-    pub place_here : (x : ℕ) → 0 < i → x ≡ arg_at f (i - 1) → x ≡ v → i ≡ r
-    place_here x h e q = sym (so ∙ args_last i x h e ∙ rw (eq-eqb x v q))
+    pub place_here : (x : ℕ) → 0 < i → x ≡ arg_at f (i - 1) → x ≡ v → i - 1 + 1 ≡ r
+    place_here x h e q = let k : i - 1 + 1 ≡ i = omega arith in k ∙ sym (so ∙ args_last i x h e ∙ rw (eq-eqb x v q))
 
     pub place_next : (x : ℕ) → 0 < i → x ≡ arg_at f (i - 1) → (x ≡ v → ⊥) → r ≡ count_set (v ∷ []) (map (arg_at f) (range 0 (i - 1)))
     place_next x h e q = so ∙ args_last i x h e ∙ rw (ne_eqb x v q)
@@ -182,11 +160,14 @@ module _ (f : List ℕ) (v : ℕ) where
   place_start n e = rw e
 
 -- ---- the returns of `set_behind`
-set_raised : (A set : List ℕ) (v n m r : ℕ) → n ≡ count_set set A → m ≡ count_set (v ∷ []) A → r ≡ greater n m → r ≡ count_set (cond (among v A) (v ∷ set) set) A
+zero_max : (n : ℕ) → max n 0 ≡ n
+zero_max n = omega arith
+
+set_raised : (A set : List ℕ) (v n m r : ℕ) → n ≡ count_set set A → m ≡ count_set (v ∷ []) A → r ≡ max n m → r ≡ count_set (cond (among v A) (v ∷ set) set) A
 set_raised A set v n m r so p q =
     by_test (among v A)
-    (λ t. rw t (q ∙ ap₂ greater so p ∙ sym (count_more v set A)))
-    (λ t. rw t (q ∙ ap (greater n) (p ∙ count_other v A t) ∙ greater_zero n ∙ so))
+    (λ t. rw t (q ∙ ap₂ max so p ∙ sym (count_more v set A)))
+    (λ t. rw t (q ∙ ap (max n) (p ∙ count_other v A t) ∙ zero_max n ∙ so))
 
 module _ (f : List ℕ) (i k n : ℕ) (kind : k ≡ stmt_kind f i) (E : Edition) (set : List ℕ) (so : n ≡ count_set set (read E f).args) where
   abbrev A : List ℕ
@@ -198,7 +179,7 @@ module _ (f : List ℕ) (i k n : ℕ) (kind : k ≡ stmt_kind f i) (E : Edition)
   abbrev After : ℕ → Type 0
   After r = r ≡ count_set (set_after A S S.kind set) A
 
-  pub set_assign : (v m r : ℕ) → k ≡ 1 → v ≡ stmt_field f i 0 → m ≡ count_set (v ∷ []) (arg_regs f) → r ≡ greater n m → After r
+  pub set_assign : (v m r : ℕ) → k ≡ 1 → v ≡ stmt_field f i 0 → m ≡ count_set (v ∷ []) (arg_regs f) → r ≡ max n m → After r
   unfolding set_after stmt_at kind_at read
   set_assign v m r h e p q = set_raised A set v n m r so p q ∙ rw (sym kind ∙ h, e)
 

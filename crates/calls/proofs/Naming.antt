@@ -19,18 +19,18 @@ use Rattle.definition.specs.Render.{Gen, open_next, open_all}
 use Rattle.definition.specs.Inline.{InPlace}
 use Rattle.definition.specs.Lower.{name_for_hex, direct, is_indirect}
 use Rattle.definition.specs.Blocks.{lowering}
-use Rattle.text.specs.declared.names.Found.{Found}
-use Rattle.text.specs.declared.names.Found.TheVariants.{At, Nothing}
-use Rattle.text.specs.Supplied.{found, name_index, name_text, text_of}
-use Rattle.text.proofs.Lookups.{name_is, name_part, text_is, found_is}
+use Rattle.std.specs.Prelude.{Option as Answer, Some, None}
+use Rattle.std.specs.Option.{MatchOption}
+use Rattle.std.specs.Bool.{then_some}
+use Rattle.definition.proofs.Bools.{by_test}
+use Rattle.records.specs.Options.{answer_of}
+use Rattle.text.specs.Supplied.{name_index, name_text, text_of}
+use Rattle.text.proofs.Lookups.{name_is, name_part, text_is, told_some, told_none}
 use Rattle.labels.specs.Labels.{block_of}
 use Rattle.labels.proofs.Finding.{block_none}
 use Rattle.room.specs.Room.{Room, emit}
 use Rattle.room.proofs.Laws.{piece_as}
-use Rattle.calls.specs.declared.hex.Hex.{Hex}
-use Rattle.calls.specs.declared.hex.Hex.TheVariants.{Value, None}
-use Rattle.calls.specs.Spelled.{outside_text, Trimmed, hexed, name_at_hex, index_at_hex, direct_index, direct_text}
-use Rattle.calls.proofs.Digits.{hexed_is}
+use Rattle.calls.specs.Spelled.{outside_text, Trimmed, named_or, name_at_hex, index_at_hex, direct_index, direct_text}
 
 -- ---- blocks
 pub block_is : (f : List ℕ) (a r : ℕ) → r ≡ block_of f a → (E : Edition) → not (eqb r 0) ≡ among a (order (read E f))
@@ -41,27 +41,53 @@ block_is f a r e E = rw e (ap not (block_none E f a) ∙ twice (among a (order (
     twice false = refl
 
 -- ---- outside
-module _ (f : List ℕ) (t a : ℕ) (r : Found) (look : r ≡ found (name_index f a)) where
-  pub outside_unnamed : r ≡ Nothing → outward a ≡ outside_text f t a
+module _ (f : List ℕ) (t a : ℕ) (r : Answer ℕ) (look : r ≡ answer_of (name_index f a)) where
+  outside_unnamed : r ≡ None → outside_text f t a ≡ outward a
   unfolding outside_text outside_name text_of
-  outside_unnamed e = rw (found_is (name_index f a) Nothing (sym look ∙ e))
+  outside_unnamed e = rw (told_none (name_index f a) (sym look ∙ e))
 
-  module _ (i : ℕ) (at : r ≡ At i) (b : Bool) (is : b ≡ begins (txt "loc_") (name_text f t i)) where
-    pub outside_label : b ≡ true → outward a ≡ outside_text f t a
+  module _ (i : ℕ) (at : r ≡ Some i) (b : Bool) (is : b ≡ begins (txt "loc_") (name_text f t i)) where
+    outside_label : b ≡ true → outside_text f t a ≡ outward a
     unfolding outside_text outside_name text_of
-    outside_label h = rw (found_is (name_index f a) (At i) (sym look ∙ at), sym is ∙ h)
+    outside_label h = rw (told_some (name_index f a) i (sym look ∙ at), sym is ∙ h)
 
-    pub outside_named : b ≡ false → name_text f t i ≡ outside_text f t a
+    outside_named : b ≡ false → outside_text f t a ≡ name_text f t i
     unfolding outside_text outside_name text_of
-    outside_named h = rw (found_is (name_index f a) (At i) (sym look ∙ at), sym is ∙ h)
+    outside_named h = rw (told_some (name_index f a) i (sym look ∙ at), sym is ∙ h)
+
+-- by what the search for its name answered
+module _ (f : List ℕ) (t a : ℕ) (r : Answer ℕ) (is : outside_text f t a ≡ named_or f t a r) where
+  pub by_name : (i : ℕ) → r ≡ Some i → name_text f t i ≡ outside_text f t a
+  unfolding named_or
+  by_name i e = sym (is ∙ rw e)
+
+  pub by_address : r ≡ None → outward a ≡ outside_text f t a
+  unfolding named_or
+  by_address e = sym (is ∙ rw e)
 
 -- a raw address begins with `*`, a label does not
-pub outward_raw : (a : ℕ) (s : List ℕ) → outward a ≡ s → true ≡ begins (txt "*") s
+outward_raw : (a : ℕ) (s : List ℕ) → outward a ≡ s → true ≡ begins (txt "*") s
 unfolding outward begins
 outward_raw a s e = rw (← e)
 
-pub named_raw : (b : Bool) (s t : List ℕ) → b ≡ begins (txt "*") s → s ≡ t → b ≡ begins (txt "*") t
+named_raw : (b : Bool) (s t : List ℕ) → b ≡ begins (txt "*") s → s ≡ t → b ≡ begins (txt "*") t
 named_raw b s t e h = rw (← h) e
+
+-- the name that was looked up, but for a label's
+pub name_kept : (f : List ℕ) (t a : ℕ) (r q : Answer ℕ) {Q : ℕ → Bool → Type 0} → r ≡ answer_of (name_index f a)
+    → MatchOption r (q ≡ None) (λ x. (b : Bool) × Q x b × (q ≡ then_some b x))
+    → ((i : ℕ) (b : Bool) → Q i b → b ≡ not (begins (txt "loc_") (name_text f t i))) → outside_text f t a ≡ named_or f t a q
+unfolding named_or
+name_kept f t a None q look h more = outside_unnamed f t a None look refl ∙ rw h
+name_kept f t a (Some i) q look h more =
+    by_test (begins (txt "loc_") (name_text f t i))
+    (λ s. outside_label f t a (Some i) look i refl _ refl s ∙ rw (h.2, more i h.0 h.1, s))
+    (λ s. outside_named f t a (Some i) look i refl _ refl s ∙ rw (h.2, more i h.0 h.1, s))
+
+pub raw_kept : (f : List ℕ) (t a : ℕ) (r : Answer ℕ) (b : Bool) {Q : ℕ → Type 0} → outside_text f t a ≡ named_or f t a r → MatchOption r (b ≡ true) Q
+    → ((i : ℕ) → Q i → b ≡ begins (txt "*") (name_text f t i)) → b ≡ begins (txt "*") (outside_text f t a)
+raw_kept f t a None b is h more = h ∙ outward_raw a _ (by_address f t a None is refl)
+raw_kept f t a (Some i) b is h more = named_raw b _ _ (more i h) (by_name f t a (Some i) is i refl)
 
 label_plain : (a : ℕ) → false ≡ begins (txt "*") (label a)
 unfolding label begins
@@ -91,17 +117,17 @@ module _ (f : List ℕ) (a : ℕ) (b : Bool) (is : (E : Edition) → b ≡ among
     put_name h e = e ∙ ap (λ (l : List ℕ). emit x (tok k l)) (ap (λ (i : ℕ). outside_text f i a) (sym section) ∙ target_outside h)
 
 -- ---- direct calls
-module _ (f : List ℕ) (at n k : ℕ) (off : Trimmed f at n k) (h : Hex) (is : h ≡ hexed (read_hex (part f (at + k) (n - k)))) where
-  spelled : h ≡ hexed (read_hex (trim_start (txt "sub_") (part f at n)))
-  spelled = is ∙ ap (λ (s : List ℕ). hexed (read_hex s)) off.rest
+module _ (f : List ℕ) (at n k : ℕ) (off : Trimmed f at n k) (h : Answer ℕ) (is : h ≡ answer_of (read_hex (part f (at + k) (n - k)))) where
+  spelled : h ≡ answer_of (read_hex (trim_start (txt "sub_") (part f at n)))
+  spelled = is ∙ ap (λ (s : List ℕ). answer_of (read_hex s)) off.rest
 
-  pub index_none : h ≡ None → Nothing ≡ found (direct_index f (part f at n))
-  unfolding direct_index index_at_hex found
-  index_none e = rw (hexed_is _ None (sym spelled ∙ e))
-
-  pub index_found : (a : ℕ) (r : Found) → h ≡ Value a → r ≡ found (name_index f a) → r ≡ found (direct_index f (part f at n))
+  pub index_none : h ≡ None → None ≡ answer_of (direct_index f (part f at n))
   unfolding direct_index index_at_hex
-  index_found a r e q = q ∙ rw (hexed_is _ (Value a) (sym spelled ∙ e))
+  index_none e = rw (told_none _ (sym spelled ∙ e))
+
+  pub index_found : (a : ℕ) (r : Answer ℕ) → h ≡ Some a → r ≡ answer_of (name_index f a) → r ≡ answer_of (direct_index f (part f at n))
+  unfolding direct_index index_at_hex
+  index_found a r e q = q ∙ rw (told_some _ a (sym spelled ∙ e))
 
 index_is : (E : Edition) (f : List ℕ) (o : Option ℕ) → name_at_hex (read E f).names o ≡ text_of f (text E) (index_at_hex f o)
 unfolding name_at_hex index_at_hex text_of read
@@ -120,22 +146,22 @@ module _ (E : Edition) (f : List ℕ) (t start n o : ℕ) (section : text E ≡ 
   unfolding is_indirect
   indirect_is b e = e ∙ ap (begins (txt "[")) spelling
 
-  module _ (r : Found) (is : r ≡ found (direct_index f (part f (o + start) n))) (x y : Room) where
-    found_there : r ≡ found (direct_index f (text_at E f start n))
-    found_there = is ∙ ap (λ (s : List ℕ). found (direct_index f s)) spelling
+  module _ (r : Answer ℕ) (is : r ≡ answer_of (direct_index f (part f (o + start) n))) (x y : Room) where
+    found_there : r ≡ answer_of (direct_index f (text_at E f start n))
+    found_there = is ∙ ap (λ (s : List ℕ). answer_of (direct_index f s)) spelling
 
-    pub direct_plain : r ≡ Nothing → y ≡ emit x (tok 4 (part f (o + start) n)) → y ≡ emit x (symbol (direct_text E f (text_at E f start n)))
+    pub direct_plain : r ≡ None → y ≡ emit x (tok 4 (part f (o + start) n)) → y ≡ emit x (symbol (direct_text E f (text_at E f start n)))
     unfolding name_or text_of
     direct_plain h e =
         let s = text_at E f start n in
-        let d : s ≡ direct_text E f s = sym (direct_is E f s ∙ ap (λ (k : Option ℕ). name_or s (text_of f (text E) k)) (found_is (direct_index f s) Nothing (sym found_there ∙ h))) in
+        let d : s ≡ direct_text E f s = sym (direct_is E f s ∙ ap (λ (k : Option ℕ). name_or s (text_of f (text E) k)) (told_none (direct_index f s) (sym found_there ∙ h))) in
         piece_as x y 4 _ _ e (spelling ∙ d)
 
-    pub direct_named : (i : ℕ) → r ≡ At i → y ≡ emit x (tok 4 (name_text f t i)) → y ≡ emit x (symbol (direct_text E f (text_at E f start n)))
+    pub direct_named : (i : ℕ) → r ≡ Some i → y ≡ emit x (tok 4 (name_text f t i)) → y ≡ emit x (symbol (direct_text E f (text_at E f start n)))
     unfolding name_or text_of
     direct_named i h e =
         let s = text_at E f start n in
-        let d : name_text f (text E) i ≡ direct_text E f s = sym (direct_is E f s ∙ ap (λ (k : Option ℕ). name_or s (text_of f (text E) k)) (found_is (direct_index f s) (At i) (sym found_there ∙ h))) in
+        let d : name_text f (text E) i ≡ direct_text E f s = sym (direct_is E f s ∙ ap (λ (k : Option ℕ). name_or s (text_of f (text E) k)) (told_some (direct_index f s) i (sym found_there ∙ h))) in
         piece_as x y 4 _ _ e (ap (λ (z : ℕ). name_text f z i) (sym section) ∙ d)
 
 -- so it is the definition's token: what is opened in place changes no name

@@ -1,12 +1,12 @@
 -- A statement's kind goes by the number in its record, so what a statement does to its block is read off the record.
 use mathlib.Core.Path.{◌≡◌, sym, ap, ◌∙◌}
-use mathlib.Core.Bool.{Bool, true, false, not, cond, ◌&&◌, ◌||◌}
+use mathlib.Core.Bool.{Bool, false, not, cond, ◌&&◌, ◌||◌}
 use mathlib.Core.Option.{Option}
 use mathlib.Core.List.{List, [], ◌∷◌, map}
 use Prim.Native.Nat.{ℕ, zero, suc, ◌+◌, ◌-◌}
 use native.Mathlib.Omega.{arith}
 use lib.Dec.{eqb}
-use borrow.Author.Tests.{eqb-true, ne_eqb}
+use borrow.Author.Tests.{eqb-true}
 use Rattle.definition.specs.Edition.{Edition}
 use Rattle.definition.specs.Lists.{range}
 use Rattle.definition.specs.Owners.{stmt_kind, stmt_field}
@@ -64,24 +64,6 @@ module _ (E : Edition) (f : List ℕ) (t : List Expr) (i : ℕ) where
   pushed_is =
       by_kind (λ k. pushed k ≡ map (tree_at t) (cond (eqb (stmt_kind f i) 2) (stmt_field f i 2 ∷ []) [])) (λ e. rw e) (λ e. rw e) (λ e x xs r vs. rw e)
       (λ e c d xs. rw e) (λ e b x y. rw e) (λ e x. rw e) (λ m c b r x xs vs. rw m)
-
--- ---- the returns of `leaves` and `takes_pushes`
-module _ (f : List ℕ) (i : ℕ) where
-  pub leaves_branch : (k : ℕ) → k ≡ stmt_kind f i → k ≡ 4 → true ≡ leaves_at f i
-  unfolding leaves_at
-  leaves_branch k e h = rw (← e, h)
-
-  pub leaves_return : (k : ℕ) → k ≡ stmt_kind f i → (k ≡ 4 → ⊥) → eqb k 6 ≡ leaves_at f i
-  unfolding leaves_at
-  leaves_return k e h = rw (← e, ne_eqb k 4 h)
-
-  pub takes_not : (b : Bool) → b ≡ marked f i 4 → b ≡ true → false ≡ takes_at f i
-  unfolding takes_at
-  takes_not b e h = rw (sym e ∙ h)
-
-  pub takes_call : (b : Bool) (k : ℕ) → b ≡ marked f i 4 → b ≡ false → k ≡ stmt_kind f i → eqb k 3 ≡ takes_at f i
-  unfolding takes_at
-  takes_call b k e h g = rw (sym e ∙ h, g)
 
 -- ---- the last statement
 module _ (E : Edition) (f : List ℕ) (t : List Expr) where

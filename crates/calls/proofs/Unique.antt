@@ -20,8 +20,9 @@ use Rattle.definition.proofs.Unique.{equation}
 use Rattle.room.specs.declared.out.Out.{Out}
 use Rattle.room.specs.Room.{Room, room_of, emit}
 use Rattle.pieces.proofs.Unique.{piece}
-use Rattle.calls.specs.declared.hex.Hex.{Hex}
-use Rattle.calls.specs.Spelled.{Trimmed, hexed, direct_text}
+use Rattle.std.specs.Prelude.{Option}
+use Rattle.records.specs.Options.{answer_of}
+use Rattle.calls.specs.Spelled.{Trimmed, direct_text}
 use Rattle.calls.specs.Waiting.{pending}
 use Rattle.calls.proofs.Trims.{part_behind}
 
@@ -38,8 +39,8 @@ trim_sub f at n r s p q =
     let b : length (part f (at + s) (n - s)) ≡ length x - s = ap length (sym (part_behind f at n s q.within)) ∙ length-drop s x in
     omega (arith, p.within, q.within)
 
-pub read_hex_lem : (f : List ℕ) (at n : ℕ) (r s : Hex) → r ≡ hexed (read_hex (part f at n)) → s ≡ hexed (read_hex (part f at n)) → r ≡ s
-read_hex_lem f at n = equation (hexed (read_hex (part f at n)))
+pub read_hex_lem : (f : List ℕ) (at n : ℕ) (r s : Option ℕ) → r ≡ answer_of (read_hex (part f at n)) → s ≡ answer_of (read_hex (part f at n)) → r ≡ s
+read_hex_lem f at n = equation (answer_of (read_hex (part f at n)))
 
 -- ---- where jumps and calls go
 pub is_block : (f : List ℕ) (a : ℕ) (r s : Bool) → ((E : Edition) → r ≡ among a (order (read E f))) → ((E : Edition) → s ≡ among a (order (read E f))) → r ≡ s

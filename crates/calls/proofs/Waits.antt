@@ -1,11 +1,12 @@
 -- The pushes that wait are those from one statement on: a call that takes them moves that statement behind itself, all else adds at the end.
-use mathlib.Core.Path.{◌≡◌, refl, sym, ap₂, ◌∙◌}
+use mathlib.Core.Path.{◌≡◌, refl, sym, ap, ap₂, ◌∙◌}
 use mathlib.Core.Bool.{Bool, true, false, not, cond, ◌||◌}
 use mathlib.Core.List.{List, [], ◌∷◌, map}
-use Prim.Native.Nat.{ℕ, suc, ◌+◌, ◌-◌, ◌≤◌, ◌<◌}
+use Prim.Native.Nat.{ℕ, zero, suc, ◌+◌, ◌-◌, ◌≤◌}
 use native.Mathlib.Omega.{arith}
 use lib.Dec.{eqb}
 use borrow.Author.Tests.{not-true}
+use Rattle.std.specs.List.{range_with_len, list_any}
 use Rattle.definition.specs.Edition.{Edition}
 use Rattle.definition.specs.Lists.{any, gather, range}
 use Rattle.definition.specs.Owners.{stmt_kind}
@@ -84,19 +85,12 @@ any_map p q g e (x ∷ xs) = ap₂ ◌||◌ (e x) (any_map p q g e xs)
 pub taken_is : (E : Edition) (f : List ℕ) (b : Bool) (a n : ℕ) → b ≡ any (takes_at f) (range a n) → b ≡ any takes (map (stmt_at E f (all_trees E f)) (range a n))
 taken_is E f b a n e = e ∙ sym (any_map takes (takes_at f) (stmt_at E f (all_trees E f)) (takes_is E f (all_trees E f)) (range a n))
 
+-- as the chain goes over their numbers
+pub taken_chain : (p : ℕ → Bool) (a n : ℕ) → list_any p (range_with_len a n) ≡ any p (range a n)
+unfolding any range
+taken_chain p a zero = refl
+taken_chain p a (suc n) = ap (λ (b : Bool). p a || b) (taken_chain p (a + 1) n)
+
 pub taken_nowhere : (p : ℕ → Bool) (i end : ℕ) → end ≤ i → false ≡ any p (range (i + 1) (end - (i + 1)))
 unfolding any range
 taken_nowhere p i end h = let k : end - (i + 1) ≡ 0 = omega arith in rw k
-
-module _ (p : ℕ → Bool) (j end : ℕ) (r b : Bool) (so : r ≡ any p (range j (end - j))) where
-  pub taken_here : j < end → b ≡ p j → b ≡ true → true ≡ r
-  unfolding any range
-  taken_here h e t = let k : end - j ≡ suc (end - (j + 1)) = omega arith in sym (so ∙ rw (k, sym e ∙ t))
-
-  pub taken_next : j < end → b ≡ p j → b ≡ false → r ≡ any p (range (j + 1) (end - (j + 1)))
-  unfolding any range
-  taken_next h e t = let k : end - j ≡ suc (end - (j + 1)) = omega arith in so ∙ rw (k, sym e ∙ t)
-
-  pub taken_none : end ≤ j → false ≡ r
-  unfolding any range
-  taken_none h = let k : end - j ≡ 0 = omega arith in sym (so ∙ rw k)

@@ -4,27 +4,26 @@ use Rattle.std.proofs.Math.Option.{Option, none, some}
 use Rattle.definition.specs.Edition.{Edition}
 use Rattle.definition.specs.Words.{part}
 use Rattle.definition.specs.Texts.{txt, trim_start}
-use Rattle.definition.specs.Numbers.{read_hex}
+use Rattle.definition.specs.Numbers.{outward, read_hex}
 use Rattle.definition.specs.Ssa.{Name}
 use Rattle.definition.specs.Read.{read}
 use Rattle.definition.specs.Lookup.{name_for, name_or, outside_name}
-use Rattle.text.specs.Supplied.{name_index, text_of}
-use Rattle.calls.specs.declared.hex.Hex.{Hex}
-use Rattle.calls.specs.declared.hex.Hex.TheVariants.{Value, None}
+use Rattle.text.specs.Supplied.{name_index, name_text, text_of}
+use Rattle.std.specs.Prelude.{Option as Answer, Some, None}
 
 -- the name of what is outside at a, its text being in section t
 unfoldable pub outside_text : List ℕ → ℕ → ℕ → List ℕ
 outside_text f t a = outside_name a (text_of f t (name_index f a))
 
+-- the same by the index of its name, if it has one that is no label's
+unfoldable pub named_or : List ℕ → ℕ → ℕ → Answer ℕ → List ℕ
+named_or f t a None = outward a
+named_or f t a (Some i) = name_text f t i
+
 -- r bytes go off n from `at` on
 pub record Trimmed (f : List ℕ) (at n r : ℕ) : Type 0 where
   pub rest : part f (at + r) (n - r) ≡ trim_start (txt "sub_") (part f at n)
   pub within : r ≤ length (part f at n)
-
--- a number as the code answers it
-unfoldable pub hexed : Option ℕ → Hex
-hexed none = None
-hexed (some v) = Value v
 
 -- the name for an address, if one was read; and its index
 unfoldable pub name_at_hex : List Name → Option ℕ → Option (List ℕ)

@@ -5,17 +5,17 @@ ghost use Rattle.definition.specs.Words.{part};
 ghost use Rattle.definition.specs.Contents.{text as text_section, text_at};
 ghost use Rattle.definition.specs.Lower.{is_indirect};
 ghost use Rattle.definition.specs.Tokens.{symbol};
-ghost use Rattle.text.specs.Supplied.{found};
+ghost use Rattle.records.specs.Options.{answer_of};
 ghost use Rattle.room.specs.Room.{room_of, emit};
 ghost use Rattle.calls.specs.Spelled.{direct_index, direct_text};
 
-use crate::hex::{Hex, read_hex};
+use crate::hex::read_hex;
 use crate::parts::begins_part;
 use crate::trim::trim_sub;
 use pieces::from_file::{put_name, put_part};
 use records::contents::offset_of;
 use room::out::Out;
-use text::names::{Found, name_for};
+use text::names::name_for;
 
 // Whether the target that is spelled by `len` bytes of section t from `start` on is computed.
 pub fn is_indirect(f: &[u8], t: u32, start: u32, len: u32) -> bool
@@ -26,13 +26,11 @@ pub fn is_indirect(f: &[u8], t: u32, start: u32, len: u32) -> bool
 }
 
 // The name for the address that n bytes from `at` on hold.
-fn name_of(f: &[u8], at: usize, n: usize) -> Found
-    ensures { result ≡ found (direct_index f.now (part f.now at n)) }
+fn name_of(f: &[u8], at: usize, n: usize) -> Option<u32>
+    ensures { result ≡ answer_of (direct_index f.now (part f.now at n)) }
 {
     let k = trim_sub(f, at, n);
-    let Hex::Value(a) = read_hex(f, at + k, n - k) else {
-        return Found::Nothing;
-    };
+    let a = read_hex(f, at + k, n - k)?;
     name_for(f, a)
 }
 
@@ -51,8 +49,8 @@ pub fn put_direct(
 {
     let at = offset_of(f, t) as usize + start as usize;
     let n = len as usize;
-    let Found::At(i) = name_of(f, at, n) else {
-        return put_part(tokens, text, out, 4, f, at, n);
-    };
-    put_name(tokens, text, out, 4, f, t, i)
+    match name_of(f, at, n) {
+        Some(i) => put_name(tokens, text, out, 4, f, t, i),
+        None => put_part(tokens, text, out, 4, f, at, n),
+    }
 }

@@ -9,14 +9,12 @@ ghost use Rattle.calls.specs.Numbered.{leaves_at};
 use records::owners::{BRANCH, RETURN, stmt_kind};
 
 // Whether statement i leaves its block, dead or live.
+#[tactic(auto, unfolding(crate::specs::Numbered::leaves_at))]
 fn leaves(f: &[u8], i: u32) -> bool
     ensures { result ≡ leaves_at f.now i }
 {
     let k = stmt_kind(f, i);
-    if k == BRANCH {
-        return true;
-    }
-    k == RETURN
+    k == BRANCH || k == RETURN
 }
 
 // Whether the last of `count` statements from `first` on does. No statement's number is above 32 bits.
@@ -24,8 +22,5 @@ pub fn last_leaves(f: &[u8], first: u32, count: u32) -> bool
     requires { first + count ≤ 4294967296 }
     ensures { (E : Edition) → result ≡ last_leaves false (map (stmt_at E f.now (all_trees E f.now)) (range first count)) }
 {
-    if count == 0 {
-        return false;
-    }
-    leaves(f, first + (count - 1))
+    count != 0 && leaves(f, first + (count - 1))
 }

@@ -9,8 +9,5 @@ use words::begins_at;
 pub fn begins_part(f: &[u8], at: usize, n: usize, w: &[u8]) -> bool
     ensures { result ≡ begins w.now (part f.now at n) }
 {
-    if n < w.len() {
-        return false;
-    }
-    begins_at(w, f, at)
+    w.len() <= n && begins_at(w, f, at)
 }

@@ -5,31 +5,18 @@ ghost use Rattle.definition.specs.Meaning.{arg_regs};
 ghost use Rattle.definition.specs.Read.{all_trees, stmt_at, read};
 ghost use Rattle.definition.specs.Lower.{count_set};
 ghost use Rattle.definition.specs.Blocks.{set_after};
-ghost use Rattle.calls.specs.Numbered.{greater as greater_of};
 
 use records::contents::{ARGS, arg_at, size_of};
 use records::owners::{ASSIGN, CALL, is_dead, stmt_field, stmt_kind};
-
-// The greater of two numbers.
-fn greater(a: u32, b: u32) -> u32
-    ensures { result ≡ greater_of a b }
-{
-    if a <= b {
-        return b;
-    }
-    a
-}
 
 // How many arguments there are up to the last in register v.
 fn last_place(f: &[u8], v: u32) -> u32
     ensures { result ≡ count_set (v ∷ []) (arg_regs f.now) }
 {
-    let mut i = size_of(f, ARGS);
-    while 0 < i {
-        if arg_at(f, i - 1) == v {
-            return i;
+    for i in (0..size_of(f, ARGS)).rev() {
+        if arg_at(f, i) == v {
+            return i + 1;
         }
-        i -= 1;
     }
     0
 }
@@ -41,12 +28,9 @@ pub fn set_behind(f: &[u8], i: u32, count: u32) -> u32
 {
     let k = stmt_kind(f, i);
     if k == ASSIGN {
-        return greater(count, last_place(f, stmt_field(f, i, 0)));
+        return count.max(last_place(f, stmt_field(f, i, 0)));
     }
-    if k != CALL {
-        return count;
-    }
-    if is_dead(f, i) {
+    if k != CALL || is_dead(f, i) {
         return count;
     }
     0

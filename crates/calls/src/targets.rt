@@ -10,7 +10,7 @@ ghost use Rattle.definition.specs.Lookup.{order, target_name};
 ghost use Rattle.definition.specs.Tokens.{tok};
 ghost use Rattle.text.specs.Supplied.{name_text};
 ghost use Rattle.room.specs.Room.{room_of, emit};
-ghost use Rattle.calls.specs.Spelled.{outside_text};
+ghost use Rattle.calls.specs.Spelled.{outside_text, named_or};
 
 use crate::parts::begins_part;
 use labels::block_of;
@@ -19,7 +19,7 @@ use pieces::piece::Made;
 use pieces::put::{put_made, put_outward};
 use records::contents::{name_word, offset_of};
 use room::out::Out;
-use text::names::{Found, name_for};
+use text::names::name_for;
 
 // Whether a block begins at a.
 pub fn is_block(f: &[u8], a: u64) -> bool
@@ -51,7 +51,14 @@ fn put_start(tokens: &mut [u64], text: &mut [u8], out: Out, kind: u32, a: u64) -
     put_made(tokens, text, out, kind, Made::Label(a))
 }
 
-// The name of what is outside at a.
+// The name of what is outside at a, where there is one: a label is none.
+fn outside_name(f: &[u8], t: u32, a: u64) -> Option<u32>
+    ensures { outside_text f.now t a ≡ named_or f.now t a result }
+{
+    name_for(f, a).filter(|i| !is_label(f, t, *i))
+}
+
+// The text of what is outside at a, as a token of any kind.
 fn put_outside(
     tokens: &mut [u64],
     text: &mut [u8],
@@ -64,13 +71,10 @@ fn put_outside(
     ensures { room_of tokens.new text.new result
         ≡ emit (room_of tokens.old text.old out) (tok kind (outside_text f.now t a)) }
 {
-    let Found::At(i) = name_for(f, a) else {
-        return put_outward(tokens, text, out, kind, a);
-    };
-    if is_label(f, t, i) {
-        return put_outward(tokens, text, out, kind, a);
+    match outside_name(f, t, a) {
+        Some(i) => put_name(tokens, text, out, kind, f, t, i),
+        None => put_outward(tokens, text, out, kind, a),
     }
-    put_name(tokens, text, out, kind, f, t, i)
 }
 
 // The name for a jump to a.
@@ -87,22 +91,17 @@ pub fn put_target(
         ≡ emit (room_of tokens.old text.old out) (tok kind (target_name (order (read E f.now)) (read E f.now).names a)) }
 {
     if is_block(f, a) {
-        return put_start(tokens, text, out, kind, a);
+        put_start(tokens, text, out, kind, a)
+    } else {
+        put_outside(tokens, text, out, kind, f, t, a)
     }
-    put_outside(tokens, text, out, kind, f, t, a)
 }
 
 // Whether what is outside at a has no name but its raw address, or a name that looks like one.
 fn outside_raw(f: &[u8], t: u32, a: u64) -> bool
     ensures { result ≡ begins (txt "*") (outside_text f.now t a) }
 {
-    let Found::At(i) = name_for(f, a) else {
-        return true;
-    };
-    if is_label(f, t, i) {
-        return true;
-    }
-    name_begins(f, t, i, b"*")
+    outside_name(f, t, a).is_none_or(|i| name_begins(f, t, i, b"*"))
 }
 
 // Whether a jump to a leaves the function for a raw address.
@@ -110,8 +109,5 @@ pub fn leaves_raw(f: &[u8], t: u32, a: u64) -> bool
     ensures { (E : Edition) → text_section E ≡ t
         → result ≡ begins (txt "*") (target_name (order (read E f.now)) (read E f.now).names a) }
 {
-    if is_block(f, a) {
-        return false;
-    }
-    outside_raw(f, t, a)
+    !is_block(f, a) && outside_raw(f, t, a)
 }

@@ -13,7 +13,7 @@ fn begins_sub(f: &[u8], at: usize, n: usize) -> bool
     begins_part(f, at, n, b"sub_")
 }
 
-// How many of n bytes from `at` on go: every leading `sub_`.
+// How many of n bytes from `at` on go: every leading `sub_`, four bytes at a time, so the loop is no count by one.
 pub fn trim_sub(f: &[u8], at: usize, n: usize) -> usize
     ensures { Trimmed f.now at n result }
 {

@@ -9,7 +9,7 @@ use Rattle.definition.specs.Lists.{range, at}
 use Rattle.definition.specs.Tokens.{Token, Line}
 use Rattle.records.proofs.Ranges.{map_snoc}
 use Rattle.room.specs.declared.out.Out.{Out}
-use Rattle.room.specs.declared.out.At.TheVariants.{Nowhere, Address}
+use Rattle.std.specs.Prelude.{Some, None}
 use Rattle.room.specs.Room.{Room, Sheet, sheet_of, emit_all, seen, option_of, write_all, seen_sheet}
 use Rattle.room.specs.Ending.{Ended}
 use Rattle.room.proofs.Laws.{line_ended, writes, written_none}
@@ -28,20 +28,20 @@ module _ (ls : List ℕ) (i a b : ℕ) (first : a ≡ first_of ls i) (last : b �
   count_some = rw (first, last)
 
 module _ (ls : List ℕ) (i : ℕ) where
-  pub address_none : (x : ℕ) → x ≡ at ls (5 * i + 0) → (x ≡ 1 → ⊥) → option_of Nowhere ≡ address_in ls i
+  pub address_none : (x : ℕ) → x ≡ at ls (5 * i + 0) → (x ≡ 1 → ⊥) → option_of None ≡ address_in ls i
   unfolding address_in
   address_none x e n =
       let z : 5 * i + 0 ≡ 5 * i = omega arith in
       rw (← (e ∙ ap (at ls) z), ne_eqb x 1 n)
 
-  pub address_some : (x y : ℕ) → x ≡ at ls (5 * i + 0) → x ≡ 1 → y ≡ at ls (5 * i + 1) → option_of (Address y) ≡ address_in ls i
+  pub address_some : (x y : ℕ) → x ≡ at ls (5 * i + 0) → x ≡ 1 → y ≡ at ls (5 * i + 1) → option_of (Some y) ≡ address_in ls i
   unfolding address_in
   address_some x y e one f =
       let z : 5 * i + 0 ≡ 5 * i = omega arith in
       rw (← (e ∙ ap (at ls) z), eq-eqb x 1 one, ← f)
 
 module _ (ls : List ℕ) (w k : ℕ) (kind : k ≡ kind_of w) where
-  pub row_closes : k ≡ 6 → option_of Nowhere ≡ row_address ls w
+  pub row_closes : k ≡ 6 → option_of None ≡ row_address ls w
   unfolding row_address
   row_closes e = rw (← kind, eq-eqb k 6 e)
 

@@ -6,7 +6,6 @@ ghost use Rattle.finish.specs.Finishing.{count_of, address_in, row_address};
 
 use indents::raised;
 use outline::rows::{indent_of, kind_of};
-use room::out::At;
 use sheet::lines::{first_of, last_of, line_number};
 
 // The kind of a closing row.
@@ -32,21 +31,21 @@ pub fn count_of(from: &[u64], i: usize) -> usize
 }
 
 // What line i stands at.
-fn address_at(from: &[u64], i: usize) -> At
+fn address_at(from: &[u64], i: usize) -> Option<u64>
     ensures { option_of result ≡ address_in from.now i }
 {
     if line_number(from, i, 0) != 1 {
-        return At::Nowhere;
+        return None;
     }
-    At::Address(line_number(from, i, 1))
+    Some(line_number(from, i, 1))
 }
 
 // What the row's line stands at.
-pub fn row_address(from: &[u64], w: u64) -> At
+pub fn row_address(from: &[u64], w: u64) -> Option<u64>
     ensures { option_of result ≡ row_address from.now w }
 {
     if kind_of(w) == CLOSE {
-        return At::Nowhere;
+        return None;
     }
     address_at(from, origin_of(w))
 }

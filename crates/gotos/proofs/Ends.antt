@@ -26,7 +26,7 @@ use Rattle.ssa.specs.declared.block.Block.{Block as BlockS}
 use Rattle.values.proofs.Ranges.{at_left, map_length, at_below}
 use Rattle.labels.specs.Labels.{start_at, next_at, Labels}
 use Rattle.room.specs.declared.out.Out.{Out}
-use Rattle.room.specs.declared.out.At.TheVariants.{Nowhere, Address}
+use Rattle.std.specs.Prelude.{Some, None}
 use Rattle.room.specs.Room.{Room, Sheet, sheet_of, room_of, emit, emit_all, seen, write_all, seen_sheet, option_of}
 use Rattle.room.specs.Ending.{Ended}
 use Rattle.room.proofs.Laws.{next, one, line_ends, written_none}
@@ -70,7 +70,7 @@ module _ (E : Edition) (f labels : List ℕ) (b : ℕ) (all : Labels f (length l
   label_none s h = rw (marked_not (among (block_long f b 0) (lowering_of E f).jumps) label_says h) (written_none s)
 
   pub label_put : (a : ℕ) (l l' : List ℕ) (r₁ r₀ : Room) (ks ts : List ℕ) (o₁ o : Out) → w ≡ 1 → a ≡ block_long f b 0
-      → r₁ ≡ emit r₀ (symbol (label a)) → room_of ks ts o₁ ≡ emit r₁ (punct (txt ":")) → Ended l o₁ 0 (option_of (Address a)) l' o
+      → r₁ ≡ emit r₀ (symbol (label a)) → room_of ks ts o₁ ≡ emit r₁ (punct (txt ":")) → Ended l o₁ 0 (option_of (Some a)) l' o
       → seen_sheet (sheet_of l' ks ts o) ≡ seen_sheet (write_all (record { lines = l; room = r₀ }) (label_line (lowering_of E f) (block_long f b 0)))
   unfolding label_line
   label_put a l l' r₁ r₀ ks ts o₁ o h p e c d =
@@ -95,7 +95,7 @@ module _ (E : Edition) (f : List ℕ) (b : ℕ) where
     closing_out = left_out _ _ _ d (closing_is a) says
 
     pub closing_put : (l l' : List ℕ) (r₀ : Room) (ks ts : List ℕ) (o₁ o : Out) → d ≡ false
-        → seen (room_of ks ts o₁) ≡ seen (emit_all r₀ (goto_tokens (symbol (label a)))) → Ended l o₁ 1 (option_of Nowhere) l' o
+        → seen (room_of ks ts o₁) ≡ seen (emit_all r₀ (goto_tokens (symbol (label a)))) → Ended l o₁ 1 (option_of None) l' o
         → seen_sheet (sheet_of l' ks ts o) ≡ seen_sheet (write_all (record { lines = l; room = r₀ }) (closing (lowering_of E f) (here_at E f b) (some a)))
     closing_put l l' r₀ ks ts o₁ o h e k =
         lines_are (sheet_of l' ks ts o) (record { lines = l; room = r₀ }) _ _ (not_out _ _ _ d (closing_is a) says h) (line_ends l l' r₀ (room_of ks ts o₁) o 1 none _ e k)

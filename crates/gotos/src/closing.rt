@@ -15,7 +15,7 @@ use crate::goto::put_goto;
 use calls::targets::is_block;
 use labels::is_next;
 use room::line::end_line;
-use room::out::{At, Out};
+use room::out::Out;
 use ssa::block::block_at;
 
 // Is no goto needed to a: the next block starts there, or none does.
@@ -47,7 +47,7 @@ fn close_to(
         return out;
     }
     let out = put_goto(tokens, text, out, a);
-    end_line(lines, out, 1, At::Nowhere)
+    end_line(lines, out, 1, None)
 }
 
 // To where the block falls, or else to where its branch goes.

@@ -11,7 +11,7 @@ use lowering::kinds::PUNCT;
 use pieces::put::{put, put_label};
 use records::contents::block_long;
 use room::line::end_line;
-use room::out::{At, Out};
+use room::out::Out;
 use slices::get;
 
 // Where something goes to the block other than by falling into it.
@@ -33,7 +33,7 @@ pub fn label(
         let a = block_long(f, block, 0);
         let out = put_label(tokens, text, out, a);
         let out = put(tokens, text, out, PUNCT, b":");
-        return end_line(lines, out, 0, At::Address(a));
+        return end_line(lines, out, 0, Some(a));
     }
     out
 }

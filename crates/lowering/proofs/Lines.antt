@@ -7,7 +7,7 @@ use Prim.Native.Nat.{ℕ}
 use Rattle.definition.specs.Contents.{stmt_long}
 use Rattle.definition.specs.Tokens.{Token, Line, line}
 use Rattle.room.specs.declared.out.Out.{Out}
-use Rattle.room.specs.declared.out.At.TheVariants.{Address}
+use Rattle.std.specs.Prelude.{Some}
 use Rattle.room.specs.Room.{Room, Sheet, room_of, sheet_of, emit_all, seen, seen_sheet, write_all, option_of}
 use Rattle.room.specs.Ending.{Ended}
 use Rattle.room.proofs.Laws.{line_ends, written_none}
@@ -21,7 +21,7 @@ module _ (ls xs : List Line) (b d : Bool) (are : ls ≡ cond b [] xs) (says : d 
   not_out h = are ∙ rw (sym says ∙ h)
 
 -- a statement's line ends at its address
-pub ends_at : (l l' : List ℕ) (o r : Out) (f : List ℕ) (i a : ℕ) → a ≡ stmt_long f i 0 → Ended l o 1 (option_of (Address a)) l' r → Ended l o 1 (some (stmt_long f i 0)) l' r
+pub ends_at : (l l' : List ℕ) (o r : Out) (f : List ℕ) (i a : ℕ) → a ≡ stmt_long f i 0 → Ended l o 1 (option_of (Some a)) l' r → Ended l o 1 (some (stmt_long f i 0)) l' r
 ends_at l l' o r f i a e d = rw (← e) d
 
 -- one line

@@ -5,11 +5,11 @@ ghost use Rattle.room.specs.Ending.{Ended};
 
 use records::contents::stmt_long;
 use room::line::end_line;
-use room::out::{At, Out};
+use room::out::Out;
 
 // The line of statement i ends, at its address.
 pub fn end_stmt(lines: &mut [u64], out: Out, f: &[u8], i: u32) -> Out
     ensures { Ended lines.old out 1 (some (stmt_long f.now i 0)) lines.new result }
 {
-    end_line(lines, out, 1, At::Address(stmt_long(f, i, 0)))
+    end_line(lines, out, 1, Some(stmt_long(f, i, 0)))
 }

@@ -2,8 +2,7 @@
 use mathlib.Core.Path.{◌≡◌, ap, subst, ◌∙◌}
 use mathlib.Core.List.{List}
 use Prim.Native.Nat.{ℕ}
-use Rattle.leaf.specs.declared.Wrote.{Wrote}
-use Rattle.leaf.specs.Leaf.{Leaf}
+use Rattle.leaf.specs.Leaf.{Wrote, Leaf}
 use Rattle.pieces.specs.declared.piece.Piece.{Piece}
 use Rattle.pieces.specs.Spelled.{spelled}
 use Rattle.probe.specs.Counted.{count_of, Counted}

@@ -1,4 +1,3 @@
 pub mod Laws
-pub mod Choosing
 pub mod Numbers
 pub mod Unique

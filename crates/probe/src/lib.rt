@@ -8,46 +8,38 @@ ghost use Rattle.pieces.specs.Spelled.{spelled};
 ghost use Rattle.probe.specs.Counted.{count_of, Counted};
 ghost use Rattle.probe.specs.Chosen.{piece_of};
 
-use leaf::Wrote;
+use leaf::{NoRoom, Wrote};
 use pieces::piece::{Global, Made, Named, Piece, write};
 
 // How many bytes were written, or the last number of 64 bits where there was no room.
+#[tactic(auto, unfolding(crate::specs::Counted::count_of))]
 fn count_of(w: Wrote) -> u64
     ensures { result ≡ count_of w }
 {
     match w {
-        Wrote::Bytes(n) => n as u64,
-        Wrote::NoRoom => 0xFFFF_FFFF_FFFF_FFFF,
+        Ok(n) => n as u64,
+        Err(NoRoom) => u64::MAX,
     }
 }
 
 // A piece by its number and operands, for a host that has no such type.
+#[tactic(auto, unfolding(crate::specs::Chosen::piece_of))]
 fn piece_of(which: u32, a: u64, b: u32, c: u32) -> Piece
     ensures { result ≡ piece_of which a b c }
 {
-    if which == 0 {
-        return Piece::Made(Made::Num(a));
+    match which {
+        0 => Piece::Made(Made::Num(a)),
+        1 => Piece::Made(Made::Slot(a)),
+        2 => Piece::Made(Made::Label(a)),
+        3 => Piece::Made(Made::Outward(a)),
+        4 => Piece::Made(Made::Pointer(b)),
+        5 => Piece::Made(Made::Register(Named { bits: b, reg: c })),
+        _ => Piece::Global(Global {
+            t: b,
+            c: a,
+            size: c,
+        }),
     }
-    if which == 1 {
-        return Piece::Made(Made::Slot(a));
-    }
-    if which == 2 {
-        return Piece::Made(Made::Label(a));
-    }
-    if which == 3 {
-        return Piece::Made(Made::Outward(a));
-    }
-    if which == 4 {
-        return Piece::Made(Made::Pointer(b));
-    }
-    if which == 5 {
-        return Piece::Made(Made::Register(Named { bits: b, reg: c }));
-    }
-    Piece::Global(Global {
-        t: b,
-        c: a,
-        size: c,
-    })
 }
 
 // The text of a piece; a global's name stands in the file.

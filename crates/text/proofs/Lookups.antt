@@ -89,23 +89,23 @@ unfolding global_name is_global global_text
 global_is E f c n = rw (name_is E f c)
 
 -- ---- what an answer says of the index that it stands for
-pub index_some : (o : Option ℕ) (i : ℕ) → answer_of o ≡ Some i → o ≡ some i
-index_some none i e = absurd (search rules)
-index_some (some j) i e = let q : j ≡ i = cc in rw q
+pub told_some : (o : Option ℕ) (i : ℕ) → answer_of o ≡ Some i → o ≡ some i
+told_some none i e = absurd (search rules)
+told_some (some j) i e = let q : j ≡ i = cc in rw q
 
-pub index_none : (o : Option ℕ) → answer_of o ≡ None → o ≡ none
-index_none none e = refl
-index_none (some j) e = absurd (search rules)
+pub told_none : (o : Option ℕ) → answer_of o ≡ None → o ≡ none
+told_none none e = refl
+told_none (some j) e = absurd (search rules)
 
 -- ---- the returns of `global_name`, by what the lookup answered
 module _ (f : List ℕ) (t c n : ℕ) (r : Answer ℕ) (look : r ≡ answer_of (name_index f c)) where
   pub global_unnamed : (x : List ℕ) → x ≡ size_prefix n → r ≡ None → x ++ numeral Upper c ≡ global_text f t c n
   unfolding global_text text_of name_or
-  global_unnamed x p e = rw (index_none (name_index f c) (sym look ∙ e), p, numeral_is Upper c)
+  global_unnamed x p e = rw (told_none (name_index f c) (sym look ∙ e), p, numeral_is Upper c)
 
   pub global_named : (i : ℕ) → r ≡ Some i → name_text f t i ≡ global_text f t c n
   unfolding global_text text_of name_or
-  global_named i e = rw (index_some (name_index f c) i (sym look ∙ e))
+  global_named i e = rw (told_some (name_index f c) i (sym look ∙ e))
 
 -- ---- a number among others, as `contains` tests it
 same_place : (x y : ℕ) → eqb x y ≡ eqb y x

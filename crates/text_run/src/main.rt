@@ -9,14 +9,14 @@ use text::names::{global_name, is_global};
 
 fn first<W: Write>(out: &mut W, n: usize, line: &[u8]) -> io::Result<()> {
     if n <= line.len() {
-        out.write_all(&line[0..n])?;
+        out.write_all(&line[..n])?;
     }
     Ok(())
 }
 
 // What was written, at the start of the line's room.
 fn put<W: Write>(out: &mut W, w: Wrote, line: &[u8]) -> io::Result<()> {
-    let Wrote::Bytes(n) = w else {
+    let Ok(n) = w else {
         return out.write_all(b"no room");
     };
     first(out, n, line)

@@ -2,8 +2,8 @@
 use Rattle.calls.proofs.Naming.{direct_plain, direct_named}
 use Rattle.calls.proofs.direct.put_direct.Goals as goal
 
-pub returns-in_default : goal.returns-in_default
-returns-in_default c = λ E s. direct_plain E _ _ _ _ _ s c.offset_of.ensures _ c.name_of.ensures _ _ (cc) c.put_part.ensures
+pub returns-in-None : goal.returns-in-None
+returns-in-None c = λ E s. direct_plain E _ _ _ _ _ s c.offset_of.ensures _ c.name_of.ensures _ _ c.in-None.is c.put_part.ensures
 
-pub returns : goal.returns
-returns c = λ E s. direct_named E _ _ _ _ _ s c.offset_of.ensures _ c.name_of.ensures _ _ c.in-At.i (cc) c.put_name.ensures
+pub returns-in-Some : goal.returns-in-Some
+returns-in-Some c = λ E s. direct_named E _ _ _ _ _ s c.offset_of.ensures _ c.name_of.ensures _ _ _ c.in-Some.is c.put_name.ensures

@@ -1,20 +1,18 @@
-use Prim.Native.Nat.{◌-◌}
-use mathlib.Core.Bool.{false}
-use mathlib.Core.Path.{refl}
-use Rattle.calls.proofs.Waits.{taken_is, taken_nowhere, taken_here, taken_next, taken_none}
+-- The chain tests the statements behind i in turn; at the end of the block there is none.
+use mathlib.Core.Path.{refl, ◌∙◌}
+use Prim.Native.Nat.{◌+◌, ◌-◌}
+use borrow.Author.Tests.{tests, le-ltb}
+use Rattle.std.proofs.Common.{rules}
+use Rattle.std.proofs.lemmas.Iterator.{YieldsList-from_range}
+use Rattle.std.proofs.lemmas.Iterator.Search.{any_from_yields_List}
+use Rattle.calls.specs.Numbered.{takes_at}
+use Rattle.calls.proofs.Waits.{taken_is, taken_chain, taken_nowhere}
 use Rattle.calls.proofs.pushes.taken_behind.Goals as goal
 
-pub returns-then-end-i : goal.returns-then-end-i
-returns-then-end-i c = λ E. taken_is E _ _ _ _ (taken_nowhere _ _ _ c.if-end-i.true)
+pub returns-else-i-end : goal.returns-else-i-end
+returns-else-i-end c = λ E. taken_is E _ _ _ _ (le-ltb _ _ c.if-i-end.false ∙ taken_nowhere _ _ _ c.if-i-end.false)
 
-pub loop-j-init : goal.loop-j-init
-loop-j-init c = refl
-
-pub returns-then-takes_pushes : goal.returns-then-takes_pushes
-returns-then-takes_pushes c = λ E. taken_is E _ _ _ _ (taken_here _ _ _ _ _ c.loop-j.invariant c.loop-j-test.true c.takes_pushes.ensures c.if-takes_pushes.true)
-
-pub loop-j-preserved : goal.loop-j-preserved
-loop-j-preserved c = taken_next _ _ _ _ _ c.loop-j.invariant c.loop-j-test.true c.takes_pushes.ensures c.if-takes_pushes.false
-
-pub returns : goal.returns
-returns c = λ E. taken_is E _ _ _ _ (taken_none _ _ _ _ false c.loop-j.invariant c.loop-j-test.false)
+pub returns-then-i-end : goal.returns-then-i-end
+returns-then-i-end c = let a = c.args in λ E. taken_is E _ _ _ _
+    (any_from_yields_List (takes_at a.f.now) _ _ _ c.any.ensures.ran (YieldsList-from_range (a.i + 1) a.end (a.end - (a.i + 1)) refl refl) (λ x b q k. search (rules, tests))
+    ∙ taken_chain (takes_at a.f.now) (a.i + 1) (a.end - (a.i + 1)))

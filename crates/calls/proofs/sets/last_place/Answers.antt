@@ -1,4 +1,3 @@
-use Rattle.definition.specs.Contents.{arg_at}
 use Rattle.calls.proofs.Counting.{place_start, place_here, place_next, place_none}
 use Rattle.calls.proofs.sets.last_place.Goals as goal
 

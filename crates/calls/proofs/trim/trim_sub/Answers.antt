@@ -1,5 +1,4 @@
 use native.Mathlib.Omega.{arith}
-use Prim.Native.Nat.{◌-◌}
 use Rattle.words.proofs.Parts.{size_most}
 use Rattle.calls.proofs.Trims.{trim_start_lem, trim_more, trim_done}
 use Rattle.calls.proofs.trim.trim_sub.Goals as goal
