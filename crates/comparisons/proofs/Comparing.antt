@@ -5,7 +5,7 @@ use mathlib.Core.Path.{◌≡◌, refl, sym, ap, ap₂, ◌∙◌}
 use mathlib.Core.Bool.{Bool, true, false, cond, false≢true}
 use mathlib.Core.Option.{Option, none, some}
 use mathlib.Core.List.{List, [], ◌∷◌, ◌++◌, append_assoc}
-use Prim.Native.Nat.{ℕ, zero, suc, ◌+◌, ◌-◌, ◌≤◌, ◌<◌}
+use Prim.Native.Nat.{min, ℕ, zero, suc, ◌+◌, ◌-◌, ◌≤◌, ◌<◌}
 use native.Mathlib.Omega.{arith}
 use borrow.Author.Tests.{eq-eqb, ne_eqb}
 use denote.Enum.Declared.{tag_of}
@@ -23,7 +23,7 @@ use Rattle.definition.proofs.ListLaws.{bit, bit_le, count_cons}
 use Rattle.definition.proofs.TextLaws.{begins_length}
 use Rattle.room.specs.Room.{Room, emit, emit_all, seen}
 use Rattle.room.proofs.Laws.{next, done, joined}
-use Rattle.sheet.specs.Ranges.{least, between}
+use Rattle.sheet.specs.Ranges.{between}
 use Rattle.sheet.proofs.Reading.{least_le, length_between}
 use Rattle.clips.proofs.Ranges.{drop_between}
 use Rattle.comparisons.specs.declared.signs.Sign.{Sign}
@@ -52,14 +52,14 @@ alike_bit a b = go (eqb a b)
 pub tally_most : (x a b : ℕ) → x ≡ alike a b → x ≤ 1
 tally_most x a b e = omega (arith, alike_bit a b, bit_le (eqb a b))
 
-pub below_end : (i e to n : ℕ) → e ≡ least to n → i < e → i < n
+pub below_end : (i e to n : ℕ) → e ≡ min to n → i < e → i < n
 below_end i e to n p h = omega (arith, (least_le to n).1)
 
 none_left : (l : List ℕ) → length l ≡ 0 → l ≡ []
 none_left [] h = refl
 none_left (b ∷ l) h = absurd (omega arith)
 
-module _ (t : List ℕ) (i to e : ℕ) (end : e ≡ least to (length t)) where
+module _ (t : List ℕ) (i to e : ℕ) (end : e ≡ min to (length t)) where
   between_cons : i < e → between t i to ≡ get_or t i 0 ∷ between t (i + 1) to
   unfolding between part
   between_cons h =

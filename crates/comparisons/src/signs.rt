@@ -12,7 +12,7 @@ ghost use Rattle.comparisons.specs.Signs.{flip_of, first_in};
 use clips::copies::put_between;
 use pieces::put::put;
 use room::out::Out;
-use sheet::ranges::{begins_between, contains_between, least};
+use sheet::ranges::{begins_between, contains_between};
 
 const PUNCT: u32 = 6;
 
@@ -30,7 +30,7 @@ fn tally(a: u8, b: u8) -> usize
 pub fn count_between(source: &[u8], from: usize, to: usize, b: u8) -> usize
     ensures { result ≡ count (eqb b) (between source.now from to) }
 {
-    let e = least(to, source.len());
+    let e = to.min(source.len());
     let mut n = 0;
     let mut i = from;
     while i < e {
@@ -92,7 +92,7 @@ pub fn compares(text: &[u8], from: usize, to: usize) -> bool
 fn place_between(source: &[u8], from: usize, to: usize, w: &[u8]) -> usize
     ensures { result ≡ from + place_of w.now (between source.now from to) }
 {
-    let e = least(to, source.len());
+    let e = to.min(source.len());
     let mut i = from;
     while i < e {
         if begins_between(source, i, to, w) {

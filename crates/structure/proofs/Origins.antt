@@ -2,7 +2,7 @@
 use mathlib.Core.Path.{◌≡◌, sym, subst}
 use mathlib.Core.Bool.{Bool, true, false}
 use mathlib.Core.List.{List}
-use Prim.Native.Nat.{ℕ, zero, suc, ◌+◌, ◌-◌, ◌/◌, ◌%◌, ◌≤◌, ◌<◌}
+use Prim.Native.Nat.{min, ℕ, zero, suc, ◌+◌, ◌-◌, ◌/◌, ◌%◌, ◌≤◌, ◌<◌}
 use native.Mathlib.Omega.{arith}
 use borrow.Author.Tests.{ltb-true}
 use lib.Dec.{eqb, ltb}
@@ -12,7 +12,6 @@ use Rattle.definition.specs.Sorts.{sort}
 use Rattle.definition.specs.Lists.{at}
 use Rattle.definition.proofs.Bools.{by_cond}
 use Rattle.definition.proofs.ListLaws.{Each, end, ◌▸◌, each_append, each_map, each_take, each_drop, each_range, each_only}
-use Rattle.sheet.specs.Ranges.{least}
 use Rattle.sheet.proofs.Reading.{least_left}
 use Rattle.passes.specs.declared.sweeps.Passed.{Passed}
 use Rattle.passes.specs.declared.sweeps.Passed.TheVariants.{Done, TooDeep}
@@ -161,6 +160,6 @@ module _ (N : ℕ) (some : 0 < N) where
   pub sorted_below : (ls ks t R : List ℕ) → N ≤ length R → R ≡ replicate (length R) 0 → All (sorted ls ks t N R)
   unfolding sorted
   sorted_below ls ks t R long z =
-      let m : least N (length R) ≡ N = least_left N (length R) long in
+      let m : min N (length R) ≡ N = least_left N (length R) long in
       let clean : All R = subst All (sym z) (each_replicate (length R) 0 zero_below) in
       rw m (each_append (each_range (row_of (lines_in ls ks t N)) 0 N (λ i h. row_below (lines_in ls ks t N) i (omega arith))) (each_drop N clean))

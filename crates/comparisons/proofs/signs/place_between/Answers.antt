@@ -8,10 +8,10 @@ pub loop-i-init : goal.loop-i-init
 loop-i-init c = refl
 
 pub returns-then-begins_between : goal.returns-then-begins_between
-returns-then-begins_between c = let a = c.args in place_hit a.source.now c.loop-i.i a.to _ c.least-e.ensures a.w.now a.from c.loop-i.invariant c.loop-i-test.true (sym c.begins_between.ensures ∙ c.if-begins_between.true)
+returns-then-begins_between c = let a = c.args in place_hit a.source.now c.loop-i.i a.to _ c.min-e.ensures a.w.now a.from c.loop-i.invariant c.loop-i-test.true (sym c.begins_between.ensures ∙ c.if-begins_between.true)
 
 pub loop-i-preserved : goal.loop-i-preserved
-loop-i-preserved c = let a = c.args in place_turn a.source.now c.loop-i.i a.to _ c.least-e.ensures a.w.now a.from c.loop-i.invariant c.loop-i-test.true (sym c.begins_between.ensures ∙ c.if-begins_between.false)
+loop-i-preserved c = let a = c.args in place_turn a.source.now c.loop-i.i a.to _ c.min-e.ensures a.w.now a.from c.loop-i.invariant c.loop-i-test.true (sym c.begins_between.ensures ∙ c.if-begins_between.false)
 
 pub returns : goal.returns
-returns c = let a = c.args in place_end a.source.now c.loop-i.i a.to _ c.least-e.ensures a.w.now a.from c.loop-i.invariant (omega arith)
+returns c = let a = c.args in place_end a.source.now c.loop-i.i a.to _ c.min-e.ensures a.w.now a.from c.loop-i.invariant (omega arith)

@@ -6,13 +6,13 @@ use lib.ListN.{length}
 use Rattle.sorts.proofs.labels.same_range.Goals as goal
 
 pub slice_bounds-is_between-count : goal.slice_bounds-is_between-count
-slice_bounds-is_between-count c = omega (arith, c.least-s.ensures, least_le c.args.c c.least-e.result)
+slice_bounds-is_between-count c = omega (arith, c.min-s.ensures, least_le c.args.c c.min-e.result)
 
 pub slice_bounds-is_between-start : goal.slice_bounds-is_between-start
-slice_bounds-is_between-start c = omega (arith, c.least-s.ensures, least_le c.args.c c.least-e.result)
+slice_bounds-is_between-start c = omega (arith, c.min-s.ensures, least_le c.args.c c.min-e.result)
 
 pub slice_bounds-is_between-end : goal.slice_bounds-is_between-end
-slice_bounds-is_between-end c = omega (arith, c.least-e.ensures, least_le c.args.d (length c.args.text.now))
+slice_bounds-is_between-end c = omega (arith, c.min-e.ensures, least_le c.args.d (length c.args.text.now))
 
 pub returns : goal.returns
-returns c = range_same c.args.text.now _ _ _ _ _ _ _ c.least-e.ensures c.least-s.ensures c.is_between.ensures
+returns c = range_same c.args.text.now _ _ _ _ _ _ _ c.min-e.ensures c.min-s.ensures c.is_between.ensures
