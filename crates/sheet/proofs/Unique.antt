@@ -47,3 +47,6 @@ none_between t f e = equation (is_empty (between t f e))
 
 pub contains_between : (t : List ℕ) (f e : ℕ) (w : List ℕ) (r s : Bool) → r ≡ contains w (between t f e) → s ≡ contains w (between t f e) → r ≡ s
 contains_between t f e w = equation (contains w (between t f e))
+
+pub part : (t : List ℕ) (f e : ℕ) (r s : List ℕ) → r ≡ between t f e → s ≡ between t f e → r ≡ s
+part t f e = equation (between t f e)

@@ -6,7 +6,7 @@ ghost use Rattle.sheet.specs.Ranges.{between};
 use words::{begins_at, contains_text, same_text};
 
 // The range, as much of it as is in the text.
-fn part(text: &[u8], from: usize, to: usize) -> &[u8]
+pub fn part(text: &[u8], from: usize, to: usize) -> &[u8]
     ensures { result.now ≡ between text.now from to }
 {
     let e = to.min(text.len());

@@ -27,10 +27,6 @@ use Rattle.sorts.proofs.Searches.{place_same, found_in, found_out}
 use Rattle.sorts.proofs.Targets.{label_none, text_first}
 
 -- ---- texts
-pub range_same : (t : List ℕ) (a b c d s e : ℕ) (r : Bool) → e ≡ min d (length t) → s ≡ min c e → r ≡ same (between t a b) (take (e - s) (drop s t))
-    → r ≡ same (between t a b) (between t c d)
-range_same t a b c d s e r p q h = h ∙ ap (same (between t a b)) (range_is t c d s e p q)
-
 pub texts_same : (ks t : List ℕ) (i j a b c d : ℕ) (r : Bool) → a ≡ start_at ks i → b ≡ end_at ks i → c ≡ start_at ks j → d ≡ end_at ks j
     → r ≡ same (between t a b) (between t c d) → r ≡ same (text_at ks t i) (text_at ks t j)
 unfolding between text_at

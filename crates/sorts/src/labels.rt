@@ -3,35 +3,20 @@ ghost use Rattle.std.specs.Prelude.{◌≡◌};
 ghost use Rattle.definition.specs.Texts.{same};
 ghost use Rattle.definition.specs.Passes.{named};
 ghost use Rattle.sheet.specs.Buffers.{text_at, line_in};
-ghost use Rattle.sheet.specs.Ranges.{between};
 ghost use Rattle.sorts.specs.Sorted.{number_of, label_number, lines_in};
 
 use crate::lines::is_label;
 use sheet::lines::{first_of, last_of};
-use sheet::ranges::is_between;
+use sheet::ranges::{is_between, part};
 use sheet::tokens::{end_at, start_at};
-
-// Whether two ranges of the text are equal.
-fn same_range(text: &[u8], a: usize, b: usize, c: usize, d: usize) -> bool
-    ensures { result ≡ same (between text.now a b) (between text.now c d) }
-{
-    let e = d.min(text.len());
-    let s = c.min(e);
-    is_between(text, a, b, &text[s..e])
-}
 
 // Whether the tokens at two places have the same text.
 fn same_name(tokens: &[u64], text: &[u8], i: usize, j: usize) -> bool
     ensures { result
         ≡ same (text_at tokens.now text.now i) (text_at tokens.now text.now j) }
 {
-    same_range(
-        text,
-        start_at(tokens, i),
-        end_at(tokens, i),
-        start_at(tokens, j),
-        end_at(tokens, j),
-    )
+    let name = part(text, start_at(tokens, j), end_at(tokens, j));
+    is_between(text, start_at(tokens, i), end_at(tokens, i), name)
 }
 
 // Whether line i is the label that the token at place p names.

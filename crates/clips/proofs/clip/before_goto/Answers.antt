@@ -1,5 +1,4 @@
 use Rattle.clips.proofs.Clips.{goto_start, goto_hit, goto_turn, goto_none}
-use Prim.Native.Nat.{◌-◌}
 use mathlib.Core.Path.{◌≡◌, ◌∙◌}
 use native.Mathlib.Omega.{arith}
 use Rattle.clips.proofs.clip.before_goto.Goals as goal

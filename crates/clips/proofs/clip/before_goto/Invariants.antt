@@ -2,7 +2,7 @@
 use Rattle.sheet.specs.Buffers.{tokens_in}
 use Rattle.definition.specs.Negate.{before_goto}
 use lib.ListN.{length}
-use Prim.Native.Nat.{◌+◌, ◌-◌, ◌≤◌}
+use Prim.Native.Nat.{◌+◌, ◌-◌}
 use mathlib.Core.Path.{◌≡◌}
 use Rattle.clips.proofs.clip.before_goto.Given as goal
 

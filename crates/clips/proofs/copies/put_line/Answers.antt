@@ -1,5 +1,4 @@
 use Rattle.clips.proofs.Emits.{line_start, line_turn, line_end}
-use Prim.Native.Nat.{◌-◌}
 use mathlib.Core.Path.{◌≡◌, refl, ◌∙◌}
 use native.Mathlib.Omega.{arith}
 use Rattle.clips.proofs.copies.put_line.Goals as goal

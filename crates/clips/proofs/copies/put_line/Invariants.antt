@@ -2,7 +2,6 @@
 use Rattle.sheet.specs.Buffers.{tokens_in}
 use Rattle.room.specs.Room.{room_of, emit_all, seen}
 use lib.ListN.{length}
-use Prim.Native.Nat.{◌-◌, ◌≤◌}
 use mathlib.Core.Path.{◌≡◌}
 use Rattle.clips.proofs.copies.put_line.Given as goal
 
