@@ -3,14 +3,14 @@
 use mathlib.Core.Path.{◌≡◌, refl, sym, ap, ◌∙◌}
 use mathlib.Core.Bool.{true, false}
 use mathlib.Core.List.{List, ◌∷◌, [], ◌++◌}
-use Prim.Native.Nat.{ℕ, ◌+◌, ◌-◌, ◌≤◌, ◌<◌}
+use Prim.Native.Nat.{min, ℕ, ◌+◌, ◌-◌, ◌≤◌, ◌<◌}
 use native.Mathlib.Omega.{arith}
 use lib.ListN.{length, drop}
 use lib.Seq.{take-add, drop-drop}
 use Rattle.definition.specs.Words.{part}
 use Rattle.definition.specs.Texts.{txt, same, begins, trim_start, cut_end}
 use Rattle.definition.proofs.TextLaws.{begins_length, same_eq, cut_end_lem}
-use Rattle.sheet.specs.Ranges.{least, between}
+use Rattle.sheet.specs.Ranges.{between}
 use Rattle.sheet.proofs.Reading.{least_left, least_le, range_is, length_between}
 use Rattle.clips.specs.Clip.{Opened, Closed}
 use Rattle.clips.proofs.Trims.{drop_take, trim_step, trim_stop, cut_short, cut_not}
@@ -28,10 +28,10 @@ between_append t s m e h k =
     let q : s + (m - s) ≡ m = omega arith in
     sym (rw p (take-add (m - s) (e - m) (drop s t) ∙ rw (drop-drop (m - s) s t, q)))
 
-cut_at_end : (t : List ℕ) (s e x : ℕ) → x ≡ least e (length t) → between t s x ≡ between t s e
+cut_at_end : (t : List ℕ) (s e x : ℕ) → x ≡ min e (length t) → between t s x ≡ between t s e
 cut_at_end t s e x p =
     let h : x ≤ length t = omega (arith, (least_le e (length t)).1) in
-    sym (range_is t s x (least s x) x (sym (least_left x (length t) h)) refl) ∙ range_is t s e (least s x) x p refl
+    sym (range_is t s x (min s x) x (sym (least_left x (length t) h)) refl) ∙ range_is t s e (min s x) x p refl
 
 -- ---- leading ` (`
 module _ (t : List ℕ) (from to : ℕ) where
@@ -66,7 +66,7 @@ module _ (t : List ℕ) (from to : ℕ) where
   }
 
 -- ---- a trailing `) `
-module _ (t : List ℕ) (from to e : ℕ) (at : e ≡ least to (length t)) where
+module _ (t : List ℕ) (from to e : ℕ) (at : e ≡ min to (length t)) where
   low : e ≤ to
   low = omega (arith, (least_le to (length t)).0)
 

@@ -7,7 +7,7 @@ ghost use Rattle.definition.specs.Negate.{before_goto, cond_of};
 ghost use Rattle.sheet.specs.Buffers.{start_at, end_at, token_at, tokens_in};
 ghost use Rattle.clips.specs.Clip.{clip_from, clip_to, clip as clip_of, Rises, Orderly, Opened, Closed};
 
-use sheet::ranges::{begins_between, is_between, least};
+use sheet::ranges::{begins_between, is_between};
 use sheet::tokens::{end_at, place, start_at, token_is};
 
 // The tokens at the places 1 to `count` - 1 behind `first`.
@@ -32,14 +32,12 @@ fn is_goto(tokens: &[u64], text: &[u8], a: usize, k: usize) -> bool
 fn before_goto(tokens: &[u64], text: &[u8], a: usize, n: usize) -> usize
     ensures { result ≡ length (before_goto (tokens_in tokens.now text.now a n)) }
 {
-    let mut k = 0;
-    while k < n {
+    for k in 0..n {
         if is_goto(tokens, text, a, k) {
             return k;
         }
-        k += 1;
     }
-    k
+    n
 }
 
 // Behind every leading ` (`.
@@ -47,6 +45,7 @@ fn after_opens(text: &[u8], from: usize, to: usize) -> usize
     ensures { Opened text.now from to result }
 {
     let mut i = from;
+    // Each step is of two bytes, and the range is left where another text stands, so this is no range of numbers.
     while begins_between(text, i, to, b" (") {
         i += 2;
     }
@@ -57,17 +56,15 @@ fn after_opens(text: &[u8], from: usize, to: usize) -> usize
 fn before_close(text: &[u8], from: usize, to: usize) -> usize
     ensures { Closed text.now from to result }
 {
-    let e = least(to, text.len());
-    if e < 2 {
-        return to;
-    }
-    if e - 2 < from {
+    let e = to.min(text.len());
+    if e.saturating_sub(from) < 2 {
         return to;
     }
     if is_between(text, e - 2, e, b") ") {
-        return e - 2;
+        e - 2
+    } else {
+        to
     }
-    to
 }
 
 fn token_start(tokens: &[u64], a: usize, k: usize) -> usize
@@ -83,23 +80,23 @@ fn token_end(tokens: &[u64], a: usize, k: usize) -> usize
 }
 
 // Where the bytes of the token at place k begin.
+#[tactic(auto, unfolding(crate::specs::Clip::clip_from))]
 pub fn clip_from(tokens: &[u64], c: Clip, k: usize) -> usize
     ensures { result ≡ clip_from tokens.now c k }
 {
     if k == 1 {
-        return c.from;
+        c.from
+    } else {
+        token_start(tokens, c.first, k)
     }
-    token_start(tokens, c.first, k)
 }
 
 // Where they end.
+#[tactic(auto, unfolding(crate::specs::Clip::clip_to))]
 pub fn clip_to(tokens: &[u64], c: Clip, k: usize) -> usize
     ensures { result ≡ clip_to tokens.now c k }
 {
-    if c.count == 0 {
-        return token_end(tokens, c.first, k);
-    }
-    if k == c.count - 1 {
+    if c.count != 0 && k == c.count - 1 {
         return c.to;
     }
     token_end(tokens, c.first, k)
@@ -123,7 +120,7 @@ pub fn condition(tokens: &[u64], text: &[u8], a: usize, n: usize) -> Clip
     let open = Clip {
         first: a,
         count: m,
-        from: from,
+        from,
         to: 0,
     };
     let start = clip_from(tokens, open, m - 1);
@@ -131,7 +128,7 @@ pub fn condition(tokens: &[u64], text: &[u8], a: usize, n: usize) -> Clip
     Clip {
         first: a,
         count: m,
-        from: from,
-        to: to,
+        from,
+        to,
     }
 }

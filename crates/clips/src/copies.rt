@@ -14,16 +14,6 @@ use room::out::Out;
 use sheet::ranges::none_between;
 use sheet::tokens::{end_at, kind_at, place, start_at};
 
-// From s to e, 0 where e is before it.
-fn gap(s: usize, e: usize) -> usize
-    ensures { result ≡ e - s }
-{
-    if e < s {
-        return 0;
-    }
-    e - s
-}
-
 // A range of the lowered text.
 pub fn put_between(
     tokens: &mut [u64],
@@ -37,7 +27,15 @@ pub fn put_between(
     ensures { room_of tokens.new text.new result
         ≡ emit (room_of tokens.old text.old out) (tok kind (between source.now from to)) }
 {
-    put_part(tokens, text, out, kind, source, from, gap(from, to))
+    put_part(
+        tokens,
+        text,
+        out,
+        kind,
+        source,
+        from,
+        to.saturating_sub(from),
+    )
 }
 
 // The token k places behind a.
@@ -74,10 +72,8 @@ pub fn put_line(
         ≡ seen (emit_all (room_of tokens.old text.old out) (tokens_in lowered.now source.now a n)) }
 {
     let mut out = out;
-    let mut k = 0;
-    while k < n {
+    for k in 0..n {
         out = put_at(tokens, text, out, lowered, source, a, k);
-        k += 1;
     }
     out
 }
@@ -117,10 +113,8 @@ pub fn put_clip(
         ≡ seen (emit_all (room_of tokens.old text.old out) (clip_of lowered.now source.now c)) }
 {
     let mut out = out;
-    let mut k = 1;
-    while k < c.count {
+    for k in 1..c.count {
         out = put_clip_at(tokens, text, out, lowered, source, c, k);
-        k += 1;
     }
     out
 }

@@ -4,13 +4,12 @@
 use mathlib.Core.Path.{◌≡◌, refl, sym, ap, ap₂, ◌∙◌}
 use mathlib.Core.Bool.{Bool, true, false, cond, false≢true}
 use mathlib.Core.Option.{Option, none, some}
-use mathlib.Core.List.{List, [], ◌∷◌, ◌++◌, append_assoc}
-use Prim.Native.Nat.{ℕ, zero, suc, ◌+◌, ◌-◌, ◌≤◌, ◌<◌}
+use mathlib.Core.List.{List, [], ◌∷◌, ◌++◌, map, append_assoc}
+use Prim.Native.Nat.{min, ℕ, zero, suc, ◌+◌, ◌-◌, ◌≤◌, ◌<◌}
 use native.Mathlib.Omega.{arith}
-use borrow.Author.Tests.{eq-eqb, ne_eqb}
-use denote.Enum.Declared.{tag_of}
-use types.Run.{OneOf, miss}
-use lib.Dec.{eqb}
+use Rattle.std.specs.Prelude.{Option as Answer, Some, None}
+use Rattle.std.specs.List.{filter, find}
+use Rattle.std.specs.Option.{is_some, option_map}
 use lib.ListN.{length, get_or, take, drop}
 use lib.Seq.{drop-cons}
 use Rattle.definition.specs.Words.{part}
@@ -19,47 +18,34 @@ use Rattle.definition.specs.Lists.{count, any, has}
 use Rattle.definition.specs.Tokens.{tok}
 use Rattle.definition.specs.Negate.{Flip, flips, compares, flip_in}
 use Rattle.definition.proofs.Bools.{by_test, cond_some}
-use Rattle.definition.proofs.ListLaws.{bit, bit_le, count_cons}
 use Rattle.definition.proofs.TextLaws.{begins_length}
 use Rattle.room.specs.Room.{Room, emit, emit_all, seen}
 use Rattle.room.proofs.Laws.{next, done, joined}
-use Rattle.sheet.specs.Ranges.{least, between}
+use Rattle.sheet.specs.Ranges.{between}
 use Rattle.sheet.proofs.Reading.{least_le, length_between}
 use Rattle.clips.proofs.Ranges.{drop_between}
 use Rattle.comparisons.specs.declared.signs.Sign.{Sign}
-use Rattle.comparisons.specs.declared.signs.Sign.TheVariants.{Equal, Unequal, Less, NotLess, Greater, NotGreater, Nothing}
-use Rattle.comparisons.specs.Looks.{alike, place_of, Stands}
-use Rattle.comparisons.specs.Signs.{nth, flip_of, first_in}
-use Rattle.comparisons.specs.contracts.signs.Sign.{the_type}
+use Rattle.comparisons.specs.declared.signs.Sign.TheVariants.{Equal, Unequal, Less, NotLess, Greater, NotGreater}
+use Rattle.comparisons.specs.Looks.{place_of, Stands}
+use Rattle.comparisons.specs.Signs.{text_of, opposite_of, flip_by, flip_of, first_in}
 
 -- ---- byte by byte
-pub tally_same : (a b : ℕ) → a ≡ b → ◌≡◌ {A = ℕ} 1 (alike a b)
-unfolding alike
-tally_same a b e = rw (eq-eqb a b e)
-
-pub tally_other : (a b : ℕ) → (a ≡ b → ⊥) → ◌≡◌ {A = ℕ} 0 (alike a b)
-unfolding alike
-tally_other a b n = rw (ne_eqb a b n)
-
-alike_bit : (a b : ℕ) → alike a b ≡ bit (eqb a b)
-unfolding alike
-alike_bit a b = go (eqb a b)
+pub count_is : (p q : ℕ → Bool) → ((x : ℕ) → p x ≡ q x) → (l : List ℕ) → length (filter p l) ≡ count q l
+unfolding count
+count_is p q h [] = refl
+count_is p q h (x ∷ l) = go (p x) (q x) (h x) (count_is p q h l)
   where
-    go : (q : Bool) → cond q 1 0 ≡ bit q
-    go true = refl
-    go false = refl
-
-pub tally_most : (x a b : ℕ) → x ≡ alike a b → x ≤ 1
-tally_most x a b e = omega (arith, alike_bit a b, bit_le (eqb a b))
-
-pub below_end : (i e to n : ℕ) → e ≡ least to n → i < e → i < n
-below_end i e to n p h = omega (arith, (least_le to n).1)
+    go : (a b : Bool) → a ≡ b → length (filter p l) ≡ count q l → length (cond a (x ∷ filter p l) (filter p l)) ≡ cond b (suc (count q l)) (count q l)
+    go true true e i = ap suc i
+    go true false e i = absurd (false≢true (sym e))
+    go false true e i = absurd (false≢true e)
+    go false false e i = i
 
 none_left : (l : List ℕ) → length l ≡ 0 → l ≡ []
 none_left [] h = refl
 none_left (b ∷ l) h = absurd (omega arith)
 
-module _ (t : List ℕ) (i to e : ℕ) (end : e ≡ least to (length t)) where
+module _ (t : List ℕ) (i to e : ℕ) (end : e ≡ min to (length t)) where
   between_cons : i < e → between t i to ≡ get_or t i 0 ∷ between t (i + 1) to
   unfolding between part
   between_cons h =
@@ -70,17 +56,6 @@ module _ (t : List ℕ) (i to e : ℕ) (end : e ≡ least to (length t)) where
 
   between_none : e ≤ i → between t i to ≡ []
   between_none h = none_left (between t i to) (omega (arith, length_between t i to))
-
-  -- ---- counts
-  module _ (b from n : ℕ) (all : n + count (eqb b) (between t i to) ≡ count (eqb b) (between t from to)) where
-    pub count_turn : (x : ℕ) → i < e → x ≡ alike b (get_or t i 0) → n + x + count (eqb b) (between t (i + 1) to) ≡ count (eqb b) (between t from to)
-    count_turn x h p =
-        let q = ap (count (eqb b)) (between_cons h) ∙ count_cons (eqb b) (get_or t i 0) (between t (i + 1) to) in
-        omega (arith, alike_bit b (get_or t i 0))
-
-    pub count_end : e ≤ i → n ≡ count (eqb b) (between t from to)
-    unfolding count
-    count_end h = let q = ap (count (eqb b)) (between_none h) in omega arith
 
   -- ---- the first place
   module _ (w : List ℕ) (from : ℕ) (all : from + place_of w (between t from to) ≡ i + place_of w (between t i to)) where
@@ -165,24 +140,32 @@ module _ (t : List ℕ) (from to : ℕ) where
         next r₃ r₀ (tok 6 x) (tok 6 v ∷ tok 6 y ∷ []) e₁ (next r₃ r₁ (tok 6 v) (tok 6 y ∷ []) e₂ (next r₃ r₂ (tok 6 y) [] e₃ (done r₃)))
         ∙ joined r₀ 6 x v (tok 6 y ∷ []) refl ∙ joined r₀ 6 (x ++ v) y [] refl ∙ ap (λ (l : List ℕ). seen (emit_all r₀ (tok 6 l ∷ []))) q
 
+pub same_option : {A : Type 0} (r : Answer A) → r ≡ option_map (λ (x : A). x) r
+same_option (Some x) = refl
+same_option None = refl
+
 -- ---- one sign after another
+abbrev pub signs : List Sign
+signs = Equal ∷ Unequal ∷ Less ∷ NotLess ∷ Greater ∷ NotGreater ∷ []
+
+some_has : (r : Answer Sign) → is_some r ≡ has (flip_of r)
+unfolding has
+some_has (Some k) = refl
+some_has None = refl
+
+pub text_some : (k : Sign) → 0 < length (text_of k)
+text_some Equal = omega arith
+text_some Unequal = omega arith
+text_some Less = omega arith
+text_some NotLess = omega arith
+text_some Greater = omega arith
+text_some NotGreater = omega arith
+
 abbrev flipped : Option Flip → List ℕ → List ℕ
 flipped none s = s
 flipped (some p) s = replace p.from p.to s
 
 module _ (s : List ℕ) where
-  pub first_hit : (p : Flip) (ps : List Flip) → contains p.from s ≡ true → some p ≡ first_in (p ∷ ps) s
-  unfolding first_in
-  first_hit p ps e = rw e
-
-  pub first_skip : (x : Option Flip) (p : Flip) (ps : List Flip) → contains p.from s ≡ false → x ≡ first_in ps s → x ≡ first_in (p ∷ ps) s
-  unfolding first_in
-  first_skip x p ps e h = rw e h
-
-  pub first_none : none ≡ first_in [] s
-  unfolding first_in
-  first_none = refl
-
   first_has : (ps : List Flip) → has (first_in ps s) ≡ any (λ q. contains q.from s) ps
   unfolding first_in any has
   first_has [] = refl
@@ -198,35 +181,30 @@ module _ (s : List ℕ) where
   first_flips [] = refl
   first_flips (p ∷ ps) = by_test (contains p.from s) (λ e. rw e) (λ e. rw e (first_flips ps))
 
-  pub sign_compares : (r : Sign) → flip_of r ≡ first_in flips s → has (flip_of r) ≡ compares s
+  pub sign_compares : (r : Answer Sign) → flip_of r ≡ first_in flips s → is_some r ≡ compares s
   unfolding compares
-  sign_compares r first = rw first (first_has flips)
+  sign_compares r first = some_has r ∙ ap has first ∙ first_has flips
+
+  -- the first of the signs that the text contains
+  sign_listed : (ks : List Sign) → flip_of (find (λ k. contains (text_of k) s) ks) ≡ first_in (map flip_by ks) s
+  unfolding first_in
+  sign_listed [] = refl
+  sign_listed (k ∷ ks) = by_test (contains (text_of k) s) (λ e. rw e) (λ e. rw e (sign_listed ks))
+
+  pub sign_first : (r : Answer Sign) → r ≡ find (λ k. contains (text_of k) s) signs → flip_of r ≡ first_in flips s
+  unfolding flips
+  sign_first r e = ap flip_of e ∙ sign_listed signs
 
   -- the first sign is k: the text contains it, and it is flipped
-  module _ (r k : Sign) (first : flip_of r ≡ first_in flips s) (is : r ≡ k) where
-    pub sign_inside : (p : Flip) → flip_of k ≡ some p → contains p.from s ≡ true
-    sign_inside p e = first_inside flips p (sym first ∙ ap flip_of is ∙ e)
+  module _ (k : Sign) (first : some (flip_by k) ≡ first_in flips s) where
+    pub sign_inside : contains (text_of k) s ≡ true
+    sign_inside = first_inside flips (flip_by k) (sym first)
 
-    pub sign_flips : flipped (flip_of k) s ≡ flip_in flips s
-    sign_flips = rw (← is, first) (first_flips flips)
+    pub sign_flips : replace (text_of k) (text_of (opposite_of k)) s ≡ flip_in flips s
+    sign_flips = ap (λ (o : Option Flip). flipped o s) first ∙ first_flips flips
 
-pub sign_none : (r : Sign) → r ≡ Nothing → false ≡ has (flip_of r)
-unfolding flip_of has
-sign_none r e = rw e
-
--- the numbers of the variants that are signs
-abbrev signs : List ℕ
-signs = 0 ∷ 1 ∷ 2 ∷ 3 ∷ 4 ∷ 5 ∷ []
-
-pub sign_some : (r : Sign) → OneOf signs (tag_of the_type r) → true ≡ has (flip_of r)
-unfolding flip_of nth flips has
-sign_some Equal h = refl
-sign_some Unequal h = refl
-sign_some Less h = refl
-sign_some NotLess h = refl
-sign_some Greater h = refl
-sign_some NotGreater h = refl
-sign_some Nothing h = absurd (miss signs 6 tt h)
+  pub no_flips : none ≡ first_in flips s → s ≡ flip_in flips s
+  no_flips first = ap (λ (o : Option Flip). flipped o s) first ∙ first_flips flips
 
 pub piece_is : (r r₀ : Room) (x y : List ℕ) → seen r ≡ seen (emit_all r₀ (tok 6 x ∷ [])) → x ≡ y → seen r ≡ seen (emit_all r₀ (tok 6 y ∷ []))
 piece_is r r₀ x y h e = rw (← e) h

@@ -3,7 +3,7 @@
 use mathlib.Core.Path.{◌≡◌, refl, sym, ap, subst⁻¹, ◌∙◌}
 use mathlib.Core.Bool.{Bool, true, false, cond, ◌&&◌}
 use mathlib.Core.List.{List, [], map}
-use Prim.Native.Nat.{ℕ, suc, ◌+◌, ◌-◌, ◌≤◌, ◌<◌}
+use Prim.Native.Nat.{min, ℕ, suc, ◌+◌, ◌-◌, ◌≤◌, ◌<◌}
 use native.Mathlib.Omega.{arith}
 use borrow.Author.Tests.{eq-eqb, ne_eqb}
 use lib.Dec.{eqb}
@@ -14,7 +14,7 @@ use Rattle.definition.specs.Negate.{compares}
 use Rattle.definition.proofs.Bools.{by_cond}
 use Rattle.definition.proofs.ListLaws.{bit, bit_le, count_length}
 use Rattle.sheet.specs.Buffers.{kind_at}
-use Rattle.sheet.specs.Ranges.{least, between}
+use Rattle.sheet.specs.Ranges.{between}
 use Rattle.sheet.proofs.Reading.{least_le, length_between}
 use Rattle.clips.specs.declared.clip.Clip.{Clip}
 use Rattle.clips.specs.Clip.{clip_from, clip_to, clip_at, Orderly}
@@ -111,7 +111,7 @@ module _ (ks t : List ℕ) (c : Clip) where
       let r = w.rises in
       (omega arith, omega arith)
 
-  text_length : (k : ℕ) → length (clip_at ks t c k).text ≡ least (clip_to ks c k) (length t) - clip_from ks c k
+  text_length : (k : ℕ) → length (clip_at ks t c k).text ≡ min (clip_to ks c k) (length t) - clip_from ks c k
   unfolding clip_at
   text_length k = length_between t (clip_from ks c k) (clip_to ks c k)
 

@@ -10,10 +10,6 @@ use Rattle.clips.specs.declared.clip.Clip.{Clip}
 use Rattle.clips.specs.Clip.{clip_from, clip_to}
 use Rattle.comparisons.specs.declared.looks.Look.{Look}
 
--- 1 where the bytes are the same
-unfoldable pub alike : ℕ → ℕ → ℕ
-alike a b = cond (eqb a b) 1 0
-
 -- how far into s the first w stands; behind all of s where it stands nowhere
 unfoldable pub place_of : List ℕ → List ℕ → ℕ
 place_of w [] = 0

@@ -33,22 +33,15 @@ fn look_at(lowered: &[u64], source: &[u8], c: Clip, k: usize, l: Look) -> Look
     let to = clip_to(lowered, c, k);
     let opens = l.opens + count_between(source, from, to, b'(');
     let closes = l.closes + count_between(source, from, to, b')');
-    if opens == closes {
-        if compares(source, from, to) {
-            return Look {
-                opens: opens,
-                closes: closes,
-                hits: l.hits + 1,
-                place: k,
-            };
-        }
+    if opens == closes && compares(source, from, to) {
+        return Look {
+            opens,
+            closes,
+            hits: l.hits + 1,
+            place: k,
+        };
     }
-    Look {
-        opens: opens,
-        closes: closes,
-        hits: l.hits,
-        place: l.place,
-    }
+    Look { opens, closes, ..l }
 }
 
 // With all tokens of the condition.
@@ -62,10 +55,8 @@ pub fn look_over(lowered: &[u64], source: &[u8], c: Clip) -> Look
         hits: 0,
         place: 0,
     };
-    let mut k = 1;
-    while k < c.count {
+    for k in 1..c.count {
         l = look_at(lowered, source, c, k, l);
-        k += 1;
     }
     l
 }

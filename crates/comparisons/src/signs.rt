@@ -6,42 +6,25 @@ ghost use Rattle.definition.specs.Tokens.{tok};
 ghost use Rattle.definition.specs.Negate.{flips, flip_in, compares as compares_in};
 ghost use Rattle.room.specs.Room.{room_of, emit_all, seen};
 ghost use Rattle.sheet.specs.Ranges.{between};
-ghost use Rattle.comparisons.specs.Looks.{alike, place_of, Stands};
-ghost use Rattle.comparisons.specs.Signs.{flip_of, first_in};
+ghost use Rattle.comparisons.specs.Looks.{place_of, Stands};
+ghost use Rattle.comparisons.specs.Signs.{text_of, opposite_of, flip_of, first_in};
 
 use clips::copies::put_between;
 use pieces::put::put;
 use room::out::Out;
-use sheet::ranges::{begins_between, contains_between, least};
+use sheet::ranges::{begins_between, contains_between, part};
 
 const PUNCT: u32 = 6;
-
-// 1 where the bytes are the same.
-fn tally(a: u8, b: u8) -> usize
-    ensures { result ≡ alike a b }
-{
-    if a == b {
-        return 1;
-    }
-    0
-}
 
 // How often the byte b is in the range.
 pub fn count_between(source: &[u8], from: usize, to: usize, b: u8) -> usize
     ensures { result ≡ count (eqb b) (between source.now from to) }
 {
-    let e = least(to, source.len());
-    let mut n = 0;
-    let mut i = from;
-    while i < e {
-        n += tally(b, source[i]);
-        i += 1;
-    }
-    n
+    part(source, from, to).iter().filter(|x| b == **x).count()
 }
 
-// A sign that compares, or none of them.
-#[derive(Clone, Copy)]
+// A sign that compares.
+#[derive(Clone, Copy, PartialEq, Eq)]
 pub enum Sign {
     Equal,
     Unequal,
@@ -49,58 +32,75 @@ pub enum Sign {
     NotLess,
     Greater,
     NotGreater,
-    Nothing,
+}
+
+// The signs, in the definition's order.
+const SIGNS: [Sign; 6] = [
+    Sign::Equal,
+    Sign::Unequal,
+    Sign::Less,
+    Sign::NotLess,
+    Sign::Greater,
+    Sign::NotGreater,
+];
+
+impl Sign {
+    fn text(self) -> &'static [u8]
+        ensures { result.now ≡ text_of self }
+    {
+        match self {
+            Sign::Equal => b" == ",
+            Sign::Unequal => b" != ",
+            Sign::Less => b" < ",
+            Sign::NotLess => b" >= ",
+            Sign::Greater => b" > ",
+            Sign::NotGreater => b" <= ",
+        }
+    }
+
+    // The sign that holds exactly where this one does not.
+    fn opposite(self) -> Sign
+        ensures { result ≡ opposite_of self }
+    {
+        match self {
+            Sign::Equal => Sign::Unequal,
+            Sign::Unequal => Sign::Equal,
+            Sign::Less => Sign::NotLess,
+            Sign::NotLess => Sign::Less,
+            Sign::Greater => Sign::NotGreater,
+            Sign::NotGreater => Sign::Greater,
+        }
+    }
 }
 
 // The first of the signs, in the definition's order, that the range contains.
-fn first_sign(text: &[u8], from: usize, to: usize) -> Sign
+fn first_sign(text: &[u8], from: usize, to: usize) -> Option<Sign>
     ensures { flip_of result ≡ first_in flips (between text.now from to) }
 {
-    if contains_between(text, from, to, b" == ") {
-        return Sign::Equal;
-    }
-    if contains_between(text, from, to, b" != ") {
-        return Sign::Unequal;
-    }
-    if contains_between(text, from, to, b" < ") {
-        return Sign::Less;
-    }
-    if contains_between(text, from, to, b" >= ") {
-        return Sign::NotLess;
-    }
-    if contains_between(text, from, to, b" > ") {
-        return Sign::Greater;
-    }
-    if contains_between(text, from, to, b" <= ") {
-        return Sign::NotGreater;
-    }
-    Sign::Nothing
+    SIGNS
+        .iter()
+        .copied()
+        .find(|sign| contains_between(text, from, to, sign.text()))
 }
 
 // Whether one of the signs is in the range.
 pub fn compares(text: &[u8], from: usize, to: usize) -> bool
     ensures { result ≡ compares_in (between text.now from to) }
 {
-    let s = first_sign(text, from, to);
-    if let Sign::Nothing = s {
-        return false;
-    }
-    true
+    first_sign(text, from, to).is_some()
 }
 
 // Where w first stands in the range; where it does not, the range's end, or its start where that is behind the end.
 fn place_between(source: &[u8], from: usize, to: usize, w: &[u8]) -> usize
     ensures { result ≡ from + place_of w.now (between source.now from to) }
 {
-    let e = least(to, source.len());
-    let mut i = from;
-    while i < e {
+    let e = to.min(source.len());
+    for i in from..e {
         if begins_between(source, i, to, w) {
             return i;
         }
-        i += 1;
     }
-    i
+    from.max(e)
 }
 
 // The range as a Punct, with `new` in place of the first `old`.
@@ -137,14 +137,17 @@ pub fn put_opposite(
     ensures { seen (room_of tokens.new text.new result)
         ≡ seen (emit_all (room_of tokens.old text.old out) (tok 6 (flip_in flips (between source.now from to)) ∷ [])) }
 {
-    let s = first_sign(source, from, to);
-    match s {
-        Sign::Equal => put_replaced(tokens, text, out, source, from, to, b" == ", b" != "),
-        Sign::Unequal => put_replaced(tokens, text, out, source, from, to, b" != ", b" == "),
-        Sign::Less => put_replaced(tokens, text, out, source, from, to, b" < ", b" >= "),
-        Sign::NotLess => put_replaced(tokens, text, out, source, from, to, b" >= ", b" < "),
-        Sign::Greater => put_replaced(tokens, text, out, source, from, to, b" > ", b" <= "),
-        Sign::NotGreater => put_replaced(tokens, text, out, source, from, to, b" <= ", b" > "),
-        Sign::Nothing => put_between(tokens, text, out, PUNCT, source, from, to),
+    match first_sign(source, from, to) {
+        Some(sign) => put_replaced(
+            tokens,
+            text,
+            out,
+            source,
+            from,
+            to,
+            sign.text(),
+            sign.opposite().text(),
+        ),
+        None => put_between(tokens, text, out, PUNCT, source, from, to),
     }
 }

@@ -58,11 +58,9 @@ pub fn finish(
         ≡ seen_sheet (write_all (sheet_of lines.old tokens.old text.old out) (lines_in from.now lowered.now source.now rows.now n)) }
 {
     let mut out = out;
-    let mut i = 0;
-    while i < n {
+    for i in 0..n {
         let w = get(rows, i);
         out = write_row(lines, tokens, text, out, from, lowered, source, w);
-        i += 1;
     }
     out
 }

@@ -19,15 +19,11 @@ pub fn origin_of(w: u64) -> usize
 }
 
 // How many tokens line i has.
+#[tactic(auto, unfolding(crate::specs::Finishing::count_of))]
 pub fn count_of(from: &[u64], i: usize) -> usize
     ensures { result ≡ count_of from.now i }
 {
-    let a = first_of(from, i);
-    let b = last_of(from, i);
-    if b < a {
-        return 0;
-    }
-    b - a
+    last_of(from, i).saturating_sub(first_of(from, i))
 }
 
 // What line i stands at.

@@ -15,23 +15,19 @@ pub struct Line {
 }
 
 // An indent `by` steps deeper, as far as 64 bits go.
+#[tactic(auto, unfolding(crate::specs::Deeper::deeper_by))]
 fn deeper(indent: u64, by: u64) -> u64
     ensures { result ≡ deeper_by by indent }
 {
-    if by <= 18446744073709551615 - indent {
-        return indent + by;
-    }
-    indent
+    indent.checked_add(by).unwrap_or(indent)
 }
 
 // Each line of a run `by` steps deeper, as far as 64 bits go.
 pub fn raise_lines(run: &mut [Line], by: u64)
     ensures { run.new ≡ map (raised_by by) run.old }
 {
-    let mut i = 0;
-    while i < run.len() {
-        run[i].indent = deeper(run[i].indent, by);
-        i += 1;
+    for line in run.iter_mut() {
+        line.indent = deeper(line.indent, by);
     }
 }
 

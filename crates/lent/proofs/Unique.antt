@@ -7,7 +7,7 @@ use lib.ListN.{length, replicate}
 use Rattle.definition.specs.Edition.{edition1}
 use Rattle.definition.specs.Listing.{Result, fits as fits_of}
 use Rattle.definition.proofs.Unique.{equation}
-use Rattle.structure.specs.declared.answers.Structured.{Structured}
+use Rattle.structure.specs.Answers.{Structured}
 use Rattle.lent.specs.declared.answer.Answer.{Answer}
 use Rattle.lent.specs.Answers.{answered, refused_with, answer_of}
 use Rattle.lent.specs.Lengths.{lent_of, low_fits}

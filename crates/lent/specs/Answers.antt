@@ -1,9 +1,8 @@
 -- The answer in numbers, and with the lent buffers as the definition's result.
-use Rattle.std.specs.Prelude.{List, ℕ}
+use Rattle.std.specs.Prelude.{List, ℕ, Ok, Err}
 use Rattle.definition.specs.Listing.{Result}
 use Rattle.structure.specs.declared.answers.Counts.{Counts}
-use Rattle.structure.specs.declared.answers.Structured.{Structured}
-use Rattle.structure.specs.declared.answers.Structured.TheVariants.{TooDeep, Listed}
+use Rattle.structure.specs.Answers.{Structured}
 use Rattle.lent.specs.declared.answer.Answer.{Answer}
 
 abbrev pub refused_with : ℕ → Answer
@@ -21,8 +20,8 @@ listed_with c = record {
 }
 
 unfoldable pub answer_of : Structured → Answer
-answer_of TooDeep = refused_with 9
-answer_of (Listed c) = listed_with c
+answer_of (Err e₀) = refused_with 9
+answer_of (Ok c) = listed_with c
 
 -- l, d and x are the lent buffers
 unfoldable pub answered : Answer → List ℕ → List ℕ → List ℕ → Result

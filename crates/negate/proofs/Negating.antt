@@ -17,17 +17,6 @@ use Rattle.clips.specs.Clip.{clip_from, clip_to, clip_at, has_text}
 use Rattle.negate.specs.Flipping.{flip_of, flipped}
 use Rattle.negate.proofs.Marks.{flip_empty, flipped_there, flipped_other}
 
--- ---- whether there is one comparison, and neither word
-module _ (n : ℕ) (p q : Bool) where
-  pub test_count : (n ≡ 1 → ⊥) → false ≡ (eqb n 1 && not p && not q)
-  test_count h = rw (ne_eqb n 1 h)
-
-  pub test_first : (a : Bool) → n ≡ 1 → a ≡ p → a ≡ true → false ≡ (eqb n 1 && not p && not q)
-  test_first a h e z = rw (eq-eqb n 1 h, ← e, z)
-
-  pub test_last : (a b : Bool) → n ≡ 1 → a ≡ p → a ≡ false → b ≡ q → not b ≡ (eqb n 1 && not p && not q)
-  test_last a b h e z f = rw (eq-eqb n 1 h, ← e, z, f)
-
 -- ---- the flipped token
 module _ (ks t : List ℕ) (c : Clip) (k f e : ℕ) (b : Bool) (from : f ≡ clip_from ks c k) (to : e ≡ clip_to ks c k) (test : b ≡ is_empty (between t f e)) where
   pub flip_nothing : (r : Room) → b ≡ true → seen r ≡ seen (emit_all r (only has_text (flip_of (clip_at ks t c k) ∷ [])))

@@ -23,13 +23,9 @@ const PUNCT: u32 = 6;
 fn flips(source: &[u8], c: Clip, hits: usize) -> bool
     ensures { result ≡ (eqb hits 1 && not (contains (txt "&&") (between source.now c.from c.to)) && not (contains (txt "||") (between source.now c.from c.to))) }
 {
-    if hits != 1 {
-        return false;
-    }
-    if contains_between(source, c.from, c.to, b"&&") {
-        return false;
-    }
-    !contains_between(source, c.from, c.to, b"||")
+    hits == 1
+        && !contains_between(source, c.from, c.to, b"&&")
+        && !contains_between(source, c.from, c.to, b"||")
 }
 
 // The token at place k with its comparison flipped, unless it is empty.
@@ -87,10 +83,8 @@ fn put_flipped(
         ≡ seen (emit_all (room_of tokens.old text.old out) (texts (flipped (clip_at lowered.now source.now c) p) (c.count - 1))) }
 {
     let mut out = out;
-    let mut k = 1;
-    while k < c.count {
+    for k in 1..c.count {
         out = put_flip_at(tokens, text, out, lowered, source, c, p, k);
-        k += 1;
     }
     out
 }

@@ -5,9 +5,10 @@ use Prim.Native.Nat.{ℕ, ◌<◌, ◌≤◌}
 use native.Mathlib.Omega.{arith}
 use borrow.Author.Tests.{lt-ltb, le-ltb}
 use lib.ListN.{length, drop, set}
+use Rattle.std.specs.Prelude.{Ok, Err}
+use Rattle.passes.specs.Sweeps.{too_deep}
 use Rattle.structure.specs.declared.answers.Counts.{Counts}
-use Rattle.structure.specs.declared.answers.Structured.{Structured}
-use Rattle.structure.specs.declared.answers.Structured.TheVariants.{TooDeep, Listed}
+use Rattle.structure.specs.Answers.{Structured}
 use Rattle.probe.specs.Numbered.{counted, number_of, counts_of, Numbered}
 
 six : (c : List ℕ) (a b d e f g : ℕ) → 6 ≤ length c → set (set (set (set (set (set c 0 a) 1 b) 2 d) 3 e) 4 f) 5 g ≡ a ∷ b ∷ d ∷ e ∷ f ∷ g ∷ drop 6 c
@@ -28,10 +29,10 @@ pub all_counts : (c : List ℕ) (k : Counts) → 6 ≤ length c
 unfolding counted
 all_counts c k h = rw (le-ltb (length c) 6 h) (six c k.lines k.tokens k.bytes k.ifs k.loops k.tests h)
 
-pub deep_numbers : (a : Structured) (c c' : List ℕ) → a ≡ TooDeep → c' ≡ counted c (record { lines = 0; tokens = 0; bytes = 0; ifs = 0; loops = 0; tests = 0 }) → Numbered a c 9 c'
+pub deep_numbers : (a : Structured) (c c' : List ℕ) → a ≡ Err too_deep → c' ≡ counted c (record { lines = 0; tokens = 0; bytes = 0; ifs = 0; loops = 0; tests = 0 }) → Numbered a c 9 c'
 unfolding number_of counts_of
 deep_numbers a c c' e h = record { number = sym (ap number_of e); counts = h ∙ sym (ap (λ (z : Structured). counted c (counts_of z)) e) }
 
-pub listed_numbers : (a : Structured) (k : Counts) (c c' : List ℕ) → a ≡ Listed k → c' ≡ counted c k → Numbered a c 0 c'
+pub listed_numbers : (a : Structured) (k : Counts) (c c' : List ℕ) → a ≡ Ok k → c' ≡ counted c k → Numbered a c 0 c'
 unfolding number_of counts_of
 listed_numbers a k c c' e h = record { number = sym (ap number_of e); counts = h ∙ sym (ap (λ (z : Structured). counted c (counts_of z)) e) }

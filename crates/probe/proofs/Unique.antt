@@ -2,11 +2,11 @@
 use mathlib.Core.Path.{◌≡◌, refl, sym, ap, ◌∙◌}
 use mathlib.Core.List.{List}
 use Prim.Native.Nat.{ℕ}
+use Rattle.std.specs.Prelude.{Ok, Err}
 use Rattle.definition.specs.Tokens.{Line}
 use Rattle.definition.specs.Listing.{Result}
 use Rattle.structure.specs.declared.answers.Counts.{Counts}
-use Rattle.structure.specs.declared.answers.Structured.{Structured}
-use Rattle.structure.specs.declared.answers.Structured.TheVariants.{TooDeep, Listed}
+use Rattle.structure.specs.Answers.{Structured}
 use Rattle.structure.specs.Lowered.{Given, Lends, result_in}
 use Rattle.structure.proofs.Unique.{structure}
 use Rattle.probe.specs.Counted.{Counted}
@@ -17,16 +17,16 @@ counted t d r s e e' l k = (l.says ∙ sym k.says, l.left ∙ sym k.left)
 
 number_in : (a : Structured) (l d x : List ℕ) → number_of a ≡ (result_in a l d x).number
 unfolding number_of result_in
-number_in TooDeep l d x = refl
-number_in (Listed k) l d x = refl
+number_in (Err e₀) l d x = refl
+number_in (Ok k) l d x = refl
 
 abbrev counts_from : Result → Counts
 counts_from v = record { lines = v.lines; tokens = v.tokens; bytes = v.bytes; ifs = v.ifs; loops = v.loops; tests = v.tests }
 
 counts_in_lem : (a : Structured) (l d x : List ℕ) → counts_of a ≡ counts_from (result_in a l d x)
 unfolding counts_of result_in
-counts_in_lem TooDeep l d x = refl
-counts_in_lem (Listed k) l d x = refl
+counts_in_lem (Err e₀) l d x = refl
+counts_in_lem (Ok k) l d x = refl
 
 pub exported : (ls ks t R S : List ℕ) (n : ℕ) (l d x c : List ℕ) (r r₁ : ℕ) (l' d' x' c' R' S' l₁ d₁ x₁ c₁ R₁ S₁ : List ℕ)
     → Exported ls ks t R S n l d x c r l' d' x' c' R' S' → Exported ls ks t R S n l d x c r₁ l₁ d₁ x₁ c₁ R₁ S₁

@@ -17,7 +17,6 @@ use Rattle.definition.proofs.Merge.{size, size_cons, size_append, text_append}
 use Rattle.room.proofs.Proper.{Kind8, Proper}
 use Rattle.room.proofs.Words.{words_length, rows_length, size_one, tokens_snoc}
 use Rattle.sheet.specs.Buffers.{kind_at, start_at, end_at, text_at, token_at, tokens_in, first_of, last_of, line_in}
-use Rattle.sheet.specs.declared.ends.Run.TheVariants.{Tokens, Bytes}
 use Rattle.sheet.proofs.Reading.{start_first, start_later}
 
 -- ---- tokens
@@ -56,10 +55,10 @@ module _ (T B : ℕ) (ts : List Token) (kinds : Each Kind8 ts) where
 
   start_held : (j : ℕ) → j < length ts → start_at K j ≡ size (take j ts)
   unfolding text_of
-  start_held zero h = sym (start_first Bytes K 0 refl)
+  start_held zero h = sym (start_first (end_at K) 0 refl)
   start_held (suc j) h =
       let p : suc j - 1 ≡ j = omega arith in
-      sym (start_later Bytes K (suc j) (size (take (suc j) ts)) (λ z. omega arith) (rw p (sym (end_held j (omega arith)))))
+      sym (start_later (end_at K) (suc j) (size (take (suc j) ts)) (λ z. omega arith) (rw p (sym (end_held j (omega arith)))))
 
   -- the text of token j stands behind those of the tokens before it
   text_held : (j : ℕ) → j < length ts → part (padded B (text_of ts)) (size (take j ts)) (length (get_or ts j no).text) ≡ (get_or ts j no).text
@@ -138,10 +137,10 @@ module _ (L T B : ℕ) (xs : List Line) (proper : Each Proper xs) (d : Line) whe
 
   first_held : (i : ℕ) → i < length xs → first_of rows i ≡ length (tokens_of (take i xs))
   unfolding tokens_of gather
-  first_held zero h = sym (start_first Tokens rows 0 refl)
+  first_held zero h = sym (start_first (last_of rows) 0 refl)
   first_held (suc i) h =
       let p : suc i - 1 ≡ i = omega arith in
-      sym (start_later Tokens rows (suc i) (length (tokens_of (take (suc i) xs))) (λ z. omega arith) (rw p (sym (last_held i (omega arith)))))
+      sym (start_later (last_of rows) (suc i) (length (tokens_of (take (suc i) xs))) (λ z. omega arith) (rw p (sym (last_held i (omega arith)))))
 
   module _ (i : ℕ) (h : i < length xs) where
     abbrev x : Line

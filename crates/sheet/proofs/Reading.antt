@@ -1,9 +1,8 @@
 -- What each return of the functions comes to, over plain lists: a range that is cut at the text's end is the range, and behind the last number
 -- there are zeros.
 use mathlib.Core.Path.{◌≡◌, refl, sym, ap, ◌∙◌}
-use mathlib.Core.Bool.{Bool, false}
 use mathlib.Core.List.{List, [], ◌∷◌}
-use Prim.Native.Nat.{ℕ, ◌+◌, ◌*◌, ◌-◌, ◌/◌, ◌%◌, ◌≤◌, ◌<◌}
+use Prim.Native.Nat.{min, ℕ, ◌+◌, ◌*◌, ◌-◌, ◌/◌, ◌≤◌, ◌<◌}
 use native.Mathlib.Decide.{dec_le}
 use native.Mathlib.Omega.{arith}
 use borrow.Author.Tests.{le-leb, lt-leb, eq-eqb, ne_eqb}
@@ -11,33 +10,24 @@ use lib.Dec.{leb}
 use lib.ListN.{length, take, drop, length-drop, drop_of_length-le}
 use lib.Seq.{take_all, take-nil, length-take-le}
 use Rattle.definition.specs.Words.{part}
-use Rattle.definition.specs.Texts.{same, is_empty}
-use Rattle.definition.specs.Tokens.{tok}
-use Rattle.definition.specs.Sorts.{is_tok}
+use Rattle.definition.specs.Texts.{is_empty}
 use Rattle.definition.specs.Lists.{at}
 use Rattle.definition.proofs.ListLaws.{at_out}
-use Rattle.sheet.specs.Buffers.{end_of, start_of, kind_at, start_at, end_at, text_at, token_at}
-use Rattle.sheet.specs.declared.ends.Run.{Run}
-use Rattle.sheet.specs.Ranges.{least, between, SamePlace}
+use Rattle.sheet.specs.Buffers.{start_of, start_at}
+use Rattle.sheet.specs.Ranges.{between, SamePlace}
 
 -- ---- ranges
-pub least_left : (a b : ℕ) → a ≤ b → least a b ≡ a
-unfolding least
-least_left a b h = rw (le-leb a b h)
+pub least_left : (a b : ℕ) → a ≤ b → min a b ≡ a
+least_left a b h = omega arith
 
-pub least_right : (a b : ℕ) → b < a → least a b ≡ b
-unfolding least
-least_right a b h = rw (lt-leb a b h)
+pub least_right : (a b : ℕ) → b < a → min a b ≡ b
+least_right a b h = omega arith
 
-pub least_le : (a b : ℕ) → (least a b ≤ a) × (least a b ≤ b)
-least_le a b = go (dec_le a b)
-  where
-    go : Dec (a ≤ b) → (least a b ≤ a) × (least a b ≤ b)
-    go (yes h) = let e = least_left a b h in (omega arith, omega arith)
-    go (no h) = let e = least_right a b (omega arith) in (omega arith, omega arith)
+pub least_le : (a b : ℕ) → (min a b ≤ a) × (min a b ≤ b)
+least_le a b = (omega arith, omega arith)
 
 -- cut at the text's end, it is the same range
-pub range_is : (t : List ℕ) (from to s e : ℕ) → e ≡ least to (length t) → s ≡ least from e → take (e - s) (drop s t) ≡ between t from to
+pub range_is : (t : List ℕ) (from to s e : ℕ) → e ≡ min to (length t) → s ≡ min from e → take (e - s) (drop s t) ≡ between t from to
 unfolding between part
 range_is t from to s e p q = go (dec_le from e)
   where
@@ -63,54 +53,40 @@ range_is t from to s e p q = go (dec_le from e)
         let z : e - s ≡ 0 = omega (arith, least_right from e (omega arith)) in
         ap (λ (n : ℕ). take n (drop s t)) z ∙ sym (past (dec_le to (length t)) (omega arith))
 
-pub length_between : (t : List ℕ) (from to : ℕ) → length (between t from to) ≡ least to (length t) - from
+pub length_between : (t : List ℕ) (from to : ℕ) → length (between t from to) ≡ min to (length t) - from
 length_between t from to =
-    let e = least to (length t) in
-    let s = least from e in
+    let e = min to (length t) in
+    let s = min from e in
     let m : e - s ≤ length (drop s t) = omega (arith, length-drop s t, (least_le to (length t)).1) in
     ap length (sym (range_is t from to s e refl refl)) ∙ length-take-le (e - s) (drop s t) m ∙ go (dec_le from e)
   where
-    go : Dec (from ≤ least to (length t)) → least to (length t) - least from (least to (length t)) ≡ least to (length t) - from
-    go (yes h) = ap (λ (n : ℕ). least to (length t) - n) (least_left from (least to (length t)) h)
-    go (no h) = let z = least_right from (least to (length t)) (omega arith) in omega arith
+    go : Dec (from ≤ min to (length t)) → min to (length t) - min from (min to (length t)) ≡ min to (length t) - from
+    go (yes h) = ap (λ (n : ℕ). min to (length t) - n) (least_left from (min to (length t)) h)
+    go (no h) = let z = least_right from (min to (length t)) (omega arith) in omega arith
 
-pub empty_is : (t : List ℕ) (from to e : ℕ) → e ≡ least to (length t) → leb e from ≡ is_empty (between t from to)
+pub empty_is : (t : List ℕ) (from to e : ℕ) → e ≡ min to (length t) → leb e from ≡ is_empty (between t from to)
 unfolding is_empty
 empty_is t from to e p = go (between t from to) (dec_le e from) (length_between t from to)
   where
-    go : (l : List ℕ) → Dec (e ≤ from) → length l ≡ least to (length t) - from → leb e from ≡ is_empty l
+    go : (l : List ℕ) → Dec (e ≤ from) → length l ≡ min to (length t) - from → leb e from ≡ is_empty l
     go [] (yes h) q = le-leb e from h
     go [] (no h) q = absurd (omega arith)
     go (b ∷ l) (yes h) q = absurd (omega arith)
     go (b ∷ l) (no h) q = lt-leb e from (omega arith)
 
 -- ---- numbers
-pub kind_is : (l : List ℕ) (j x : ℕ) → x ≡ at l j → x % 8 ≡ kind_at l j
-unfolding kind_at
-kind_is l j x e = rw e
-
-pub start_first : (x : Run) (l : List ℕ) (i : ℕ) → i ≡ 0 → 0 ≡ start_of x l i
+pub start_first : (ends : ℕ → ℕ) (i : ℕ) → i ≡ 0 → 0 ≡ start_of ends i
 unfolding start_of
-start_first x l i z = rw (eq-eqb i 0 z)
+start_first ends i z = rw (eq-eqb i 0 z)
 
-pub start_later : (x : Run) (l : List ℕ) (i e : ℕ) → (i ≡ 0 → ⊥) → e ≡ end_of x l (i - 1) → e ≡ start_of x l i
+pub start_later : (ends : ℕ → ℕ) (i e : ℕ) → (i ≡ 0 → ⊥) → e ≡ ends (i - 1) → e ≡ start_of ends i
 unfolding start_of
-start_later x l i e n h = rw (ne_eqb i 0 n) h
+start_later ends i e n h = rw (ne_eqb i 0 n) h
 
 pub line_out : (l : List ℕ) (i k : ℕ) → length l / 5 < i → 0 ≡ at l (5 * i + k)
 line_out l i k h = at_out l (5 * i + k) (omega arith)
 
 -- ---- tokens
-module _ (ks t : List ℕ) (j k : ℕ) (w : List ℕ) where
-  pub token_other : (x : ℕ) → x ≡ kind_at ks j → (x ≡ k → ⊥) → false ≡ is_tok (tok k w) (token_at ks t j)
-  unfolding is_tok token_at
-  token_other x e n = rw (← e, ne_eqb x k n)
-
-  pub token_same : (x s e : ℕ) (b : Bool) → x ≡ kind_at ks j → x ≡ k → s ≡ start_at ks j → e ≡ end_at ks j → b ≡ same (between t s e) w
-      → b ≡ is_tok (tok k w) (token_at ks t j)
-  unfolding is_tok token_at text_at between
-  token_same x s e b p z q r h = rw (← p, eq-eqb x k z, ← q, ← r) h
-
 -- two places behind all tokens, and the same place
 pub place_past : (ks : List ℕ) (p q : ℕ) → length ks < p → length ks < q → SamePlace ks p q
 unfolding start_of

@@ -8,19 +8,24 @@ use Rattle.definition.specs.Tokens.{tok}
 use Rattle.definition.specs.Sorts.{is_tok}
 use Rattle.definition.specs.Lists.{at}
 use Rattle.definition.proofs.Unique.{equation}
-use Rattle.sheet.specs.Buffers.{end_of, start_of, kind_at, token_at}
-use Rattle.sheet.specs.declared.ends.Run.{Run}
-use Rattle.sheet.specs.Ranges.{least as least_of, between, SamePlace}
+use Rattle.sheet.specs.Buffers.{start_at, end_at, first_of, last_of, kind_at, token_at}
+use Rattle.sheet.specs.Ranges.{between, SamePlace}
 
 pub kind_at_lem : (ks : List ℕ) (j r s : ℕ) → r ≡ kind_at ks j → s ≡ kind_at ks j → r ≡ s
 kind_at_lem ks j = equation (kind_at ks j)
 
--- of the tokens of a line, and of the bytes of a token
-pub start_of_lem : (x : Run) (l : List ℕ) (i r s : ℕ) → r ≡ start_of x l i → s ≡ start_of x l i → r ≡ s
-start_of_lem x l i = equation (start_of x l i)
+-- the bytes of a token, and the tokens of a line
+pub start_at_lem : (ks : List ℕ) (j r s : ℕ) → r ≡ start_at ks j → s ≡ start_at ks j → r ≡ s
+start_at_lem ks j = equation (start_at ks j)
 
-pub end_of_lem : (x : Run) (l : List ℕ) (i r s : ℕ) → r ≡ end_of x l i → s ≡ end_of x l i → r ≡ s
-end_of_lem x l i = equation (end_of x l i)
+pub end_at_lem : (ks : List ℕ) (j r s : ℕ) → r ≡ end_at ks j → s ≡ end_at ks j → r ≡ s
+end_at_lem ks j = equation (end_at ks j)
+
+pub first_of_lem : (l : List ℕ) (i r s : ℕ) → r ≡ first_of l i → s ≡ first_of l i → r ≡ s
+first_of_lem l i = equation (first_of l i)
+
+pub last_of_lem : (l : List ℕ) (i r s : ℕ) → r ≡ last_of l i → s ≡ last_of l i → r ≡ s
+last_of_lem l i = equation (last_of l i)
 
 pub token_is : (ks t : List ℕ) (j k : ℕ) (w : List ℕ) (r s : Bool) → r ≡ is_tok (tok k w) (token_at ks t j) → s ≡ is_tok (tok k w) (token_at ks t j) → r ≡ s
 token_is ks t j k w = equation (is_tok (tok k w) (token_at ks t j))
@@ -30,9 +35,6 @@ place ks p r s a b = record { number = a.number ∙ sym b.number; start = a.star
 
 pub line_number : (l : List ℕ) (i k r s : ℕ) → r ≡ at l (5 * i + k) → s ≡ at l (5 * i + k) → r ≡ s
 line_number l i k = equation (at l (5 * i + k))
-
-pub least : (a b r s : ℕ) → r ≡ least_of a b → s ≡ least_of a b → r ≡ s
-least a b = equation (least_of a b)
 
 pub is_between : (t : List ℕ) (f e : ℕ) (w : List ℕ) (r s : Bool) → r ≡ same (between t f e) w → s ≡ same (between t f e) w → r ≡ s
 is_between t f e w = equation (same (between t f e) w)
@@ -45,3 +47,6 @@ none_between t f e = equation (is_empty (between t f e))
 
 pub contains_between : (t : List ℕ) (f e : ℕ) (w : List ℕ) (r s : Bool) → r ≡ contains w (between t f e) → s ≡ contains w (between t f e) → r ≡ s
 contains_between t f e w = equation (contains w (between t f e))
+
+pub part : (t : List ℕ) (f e : ℕ) (r s : List ℕ) → r ≡ between t f e → s ≡ between t f e → r ≡ s
+part t f e = equation (between t f e)

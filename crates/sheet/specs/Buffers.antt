@@ -5,22 +5,17 @@ use Rattle.definition.specs.Lists.{range, at}
 use Rattle.definition.specs.Read.{when}
 use Rattle.definition.specs.Tokens.{Token, tok, Line}
 use Rattle.definition.specs.Listing.{line_numbers}
-use Rattle.sheet.specs.declared.ends.Run.{Run}
-use Rattle.sheet.specs.declared.ends.Run.TheVariants.{Tokens, Bytes}
 
--- the tokens of line i and the bytes of the token at place i end here, and begin where those of the one before end
-abbrev pub end_of : Run → List ℕ → ℕ → ℕ
-end_of Tokens ls i = at ls (line_numbers * i + 3)
-end_of Bytes ks i = at ks i / 8
+-- each of what ends where `ends` says begins where the one before it ends
+unfoldable pub start_of : (ℕ → ℕ) → ℕ → ℕ
+start_of ends i = cond (eqb i 0) 0 (ends (i - 1))
 
-unfoldable pub start_of : Run → List ℕ → ℕ → ℕ
-start_of x l i = cond (eqb i 0) 0 (end_of x l (i - 1))
-
+-- the bytes of the token at place j
 abbrev pub end_at : List ℕ → ℕ → ℕ
-end_at ks j = end_of Bytes ks j
+end_at ks j = at ks j / 8
 
 abbrev pub start_at : List ℕ → ℕ → ℕ
-start_at ks j = start_of Bytes ks j
+start_at ks j = start_of (end_at ks) j
 
 unfoldable pub kind_at : List ℕ → ℕ → ℕ
 kind_at ks j = at ks j % 8
@@ -37,10 +32,10 @@ tokens_in ks t a n = map (token_at ks t) (range a n)
 
 -- the tokens of line i: from the end of the line before it to its own
 abbrev pub last_of : List ℕ → ℕ → ℕ
-last_of ls i = end_of Tokens ls i
+last_of ls i = at ls (line_numbers * i + 3)
 
 abbrev pub first_of : List ℕ → ℕ → ℕ
-first_of ls i = start_of Tokens ls i
+first_of ls i = start_of (last_of ls) i
 
 unfoldable pub line_in : List ℕ → List ℕ → List ℕ → ℕ → Line
 line_in ls ks t i = record {

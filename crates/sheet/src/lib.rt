@@ -1,7 +1,6 @@
 // Lowered lines, read off the room's buffers.
 #![tactic(auto)]
 
-pub mod ends;
 pub mod lines;
 pub mod ranges;
 pub mod tokens;

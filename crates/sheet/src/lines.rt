@@ -3,11 +3,13 @@ ghost use Rattle.std.specs.Prelude.{◌≡◌, ◌+◌, ◌*◌, ◌<◌};
 ghost use Rattle.definition.specs.Lists.{at};
 ghost use Rattle.sheet.specs.Buffers.{first_of, last_of};
 
-use crate::ends::{Run, end_of, start_of};
 use slices::get;
 
 // The numbers of a line.
 const ROW: usize = 5;
+
+// The number of a line that is the end of its tokens.
+const END: usize = 3;
 
 // Number k of line i.
 pub fn line_number(lines: &[u64], i: usize, k: usize) -> u64
@@ -23,11 +25,12 @@ pub fn line_number(lines: &[u64], i: usize, k: usize) -> u64
 pub fn last_of(lines: &[u64], i: usize) -> usize
     ensures { result ≡ last_of lines.now i }
 {
-    end_of(lines, Run::Tokens, i)
+    line_number(lines, i, END) as usize
 }
 
+#[tactic(auto, unfolding(crate::specs::Buffers::start_of))]
 pub fn first_of(lines: &[u64], i: usize) -> usize
     ensures { result ≡ first_of lines.now i }
 {
-    start_of(lines, Run::Tokens, i)
+    if i == 0 { 0 } else { last_of(lines, i - 1) }
 }

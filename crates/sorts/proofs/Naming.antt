@@ -4,12 +4,12 @@ use mathlib.Core.Path.{◌≡◌, refl, sym, ap, ◌∙◌}
 use mathlib.Core.Bool.{Bool, true, false, false≢true}
 use mathlib.Core.Option.{Option, none, some}
 use mathlib.Core.List.{List}
-use Prim.Native.Nat.{ℕ, suc, ◌+◌, ◌-◌, ◌≤◌, ◌<◌}
+use Prim.Native.Nat.{min, ℕ, suc, ◌-◌, ◌≤◌, ◌<◌}
 use native.Mathlib.Decide.{dec_lt}
 use native.Mathlib.Omega.{arith}
-use native.Mathlib.Numerals.{add-one}
 use borrow.Author.Tests.{lt-ltb, le-ltb}
 use lib.ListN.{length, take, drop}
+use Rattle.std.specs.Prelude.{Option as Place}
 use Rattle.definition.specs.Texts.{txt, same}
 use Rattle.definition.specs.Tokens.{Token, Line, keyword, punct}
 use Rattle.definition.specs.Sorts.{Sort, sort_of, sort_at, sort_rest, sort_jump, is_label, goto_target, first_is, first_text}
@@ -17,20 +17,16 @@ use Rattle.definition.specs.Sorts.Sort.{plain, if_open, close, do_open, while_cl
 use Rattle.definition.specs.Passes.{label_name, is, named, closer}
 use Rattle.definition.proofs.Bools.{by_test, by_cond}
 use Rattle.sheet.specs.Buffers.{start_at, end_at, text_at, tokens_in, first_of, last_of, line_in}
-use Rattle.sheet.specs.Ranges.{least, between}
+use Rattle.sheet.specs.Ranges.{between}
 use Rattle.sheet.proofs.Reading.{range_is}
 use Rattle.outline.specs.Rows.{line_at}
-use Rattle.sorts.specs.Places.{first_place}
-use Rattle.sorts.specs.Sorted.{named_at, numbered, label_number, lines_in}
+use Rattle.sorts.specs.Places.{found, first_place}
+use Rattle.sorts.specs.Sorted.{named_at, number_of, numbered, label_number, lines_in}
 use Rattle.sorts.proofs.Ranges.{below_at, below_length}
-use Rattle.sorts.proofs.Searches.{place_end, place_found, place_on}
+use Rattle.sorts.proofs.Searches.{place_same, found_in, found_out}
 use Rattle.sorts.proofs.Targets.{label_none, text_first}
 
 -- ---- texts
-pub range_same : (t : List ℕ) (a b c d s e : ℕ) (r : Bool) → e ≡ least d (length t) → s ≡ least c e → r ≡ same (between t a b) (take (e - s) (drop s t))
-    → r ≡ same (between t a b) (between t c d)
-range_same t a b c d s e r p q h = h ∙ ap (same (between t a b)) (range_is t c d s e p q)
-
 pub texts_same : (ks t : List ℕ) (i j a b c d : ℕ) (r : Bool) → a ≡ start_at ks i → b ≡ end_at ks i → c ≡ start_at ks j → d ≡ end_at ks j
     → r ≡ same (between t a b) (between t c d) → r ≡ same (text_at ks t i) (text_at ks t j)
 unfolding between text_at
@@ -100,30 +96,27 @@ module _ (ls ks t : List ℕ) where
     unfolding lines_in line_at
     line_at_lem i h = below_at (line_in ls ks t) n i (closer 0) h
 
-    module _ (s : List ℕ) where
-      -- none of the lines before i is the label s
-      pub record Sought (i : ℕ) : Type 0 where
-        pub so : first_place (named_at s (lines_in ls ks t n)) 0 (n - 0) ≡ first_place (named_at s (lines_in ls ks t n)) i (n - i)
+    -- the place found is that of the label's name
+    pub label_place : (s : List ℕ) (r : Place ℕ) → r ≡ found n (first_place (λ i. named s (line_in ls ks t i)) 0 (n - 0)) → number_of r ≡ label_number s (lines_in ls ks t n)
+    unfolding label_number named_at
+    label_place s r q =
+        let z : n - 0 ≡ n = omega arith in
+        let j = first_place (named_at s (lines_in ls ks t n)) 0 n in
+        let e : first_place (λ i. named s (line_in ls ks t i)) 0 (n - 0) ≡ j = rw z (place_same (λ i. named s (line_in ls ks t i)) (named_at s (lines_in ls ks t n)) n 0 (λ i h. ap (named s) (sym (line_at_lem i (omega arith))))) in
+        ap number_of (q ∙ ap (found n) e) ∙ go j (dec_lt j n) ∙ ap (λ (k : ℕ). numbered k (first_place (named_at s (lines_in ls ks t n)) 0 k)) (sym lines_length)
+      where
+        go : (j : ℕ) → Dec (j < n) → number_of (found n j) ≡ numbered n j
+        go j (yes h) = ap number_of (found_in n j h) ∙ sym (number_in n j h)
+        go j (no h) = ap number_of (found_out n j (omega arith)) ∙ sym (number_out n j (omega arith))
 
-      pub sought_start : Sought 0
-      sought_start = record { so = refl }
+-- a label's line is one of the lines
+number_le : (n i : ℕ) → Dec (i < n) → numbered n i ≤ n
+number_le n i (yes h) = omega (arith, number_in n i h)
+number_le n i (no h) = omega (arith, number_out n i (omega arith))
 
-      number_is : (j : ℕ) → first_place (named_at s (lines_in ls ks t n)) 0 (n - 0) ≡ j → label_number s (lines_in ls ks t n) ≡ numbered n j
-      unfolding label_number
-      number_is j e = let z : n - 0 ≡ n = omega arith in rw (lines_length) (ap (numbered n) (rw z at e))
+pub label_le : (t : List ℕ) (low : List Line) → label_number t low ≤ length low
+unfolding label_number
+label_le t low = number_le (length low) (first_place (named_at t low) 0 (length low)) (dec_lt _ (length low))
 
-      module _ (i : ℕ) (before : Sought i) where
-        pub sought_end : n ≤ i → 0 ≡ label_number s (lines_in ls ks t n)
-        sought_end h = sym (number_is i (before.so ∙ sym (place_end (named_at s (lines_in ls ks t n)) n i h)) ∙ number_out n i h)
-
-        module _ (h : i < n) (b : Bool) (test : b ≡ named s (line_in ls ks t i)) where
-          test_is : named_at s (lines_in ls ks t n) i ≡ b
-          unfolding named_at
-          test_is = ap (named s) (line_at_lem i h) ∙ sym test
-
-          pub sought_found : b ≡ true → i + 1 ≡ label_number s (lines_in ls ks t n)
-          sought_found z =
-              add-one i ∙ sym (number_is i (before.so ∙ sym (place_found (named_at s (lines_in ls ks t n)) n i h (test_is ∙ z))) ∙ number_in n i h)
-
-          pub sought_on : b ≡ false → Sought (i + 1)
-          sought_on z = record { so = before.so ∙ place_on (named_at s (lines_in ls ks t n)) n i h (test_is ∙ z) }
+pub label_most : (ls ks t : List ℕ) (n i : ℕ) (s : List ℕ) → suc i ≡ label_number s (lines_in ls ks t n) → suc i ≤ n
+label_most ls ks t n i s e = omega (arith, label_le s (lines_in ls ks t n), lines_length ls ks t n)

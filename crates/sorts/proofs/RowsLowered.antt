@@ -2,7 +2,7 @@
 use mathlib.Core.Path.{◌≡◌, refl, sym, ap, subst, ◌∙◌}
 use mathlib.Core.Bool.{true, false≢true}
 use mathlib.Core.List.{List, map}
-use Prim.Native.Nat.{ℕ, suc, ◌+◌, ◌≤◌, ◌<◌}
+use Prim.Native.Nat.{min, ℕ, suc, ◌+◌, ◌≤◌, ◌<◌}
 use native.Mathlib.Decide.{dec_lt}
 use native.Mathlib.Omega.{arith}
 use borrow.Author.Tests.{eq-eqb, eqb-true}
@@ -19,7 +19,6 @@ use Rattle.definition.proofs.TextLaws.{same_refl}
 use Rattle.definition.proofs.TokenSorts.{close_sort}
 use Rattle.definition.proofs.Plain.{FlatAs, Plain}
 use Rattle.sheet.specs.Buffers.{line_in}
-use Rattle.sheet.specs.Ranges.{least}
 use Rattle.sheet.proofs.Reading.{least_left}
 use Rattle.outline.specs.Rows.{kind_of, indent_of, name_of, origin_of, line_at}
 use Rattle.coding.proofs.Coding.{Aims, Codes}
@@ -28,7 +27,7 @@ use Rattle.sorts.specs.Places.{first_place}
 use Rattle.sorts.specs.Sorted.{named_at, numbered, label_number, kind_in, name_in, packed, row_of, lines_in, sorted}
 use Rattle.sorts.proofs.Ranges.{below_length, below_at, below_is}
 use Rattle.sorts.proofs.Searches.{place_holds, place_least}
-use Rattle.sorts.proofs.Naming.{number_in, number_out}
+use Rattle.sorts.proofs.Naming.{number_in, number_out, label_le}
 use Rattle.sorts.proofs.Once.{each_at, counted, no_second}
 
 -- ---- fields
@@ -45,10 +44,6 @@ fields k d m o hk hd hm ho = record { kind = omega arith; indent = omega arith; 
 
 -- ---- names
 module _ (n i : ℕ) where
-  number_le : Dec (i < n) → numbered n i ≤ n
-  number_le (yes h) = omega (arith, number_in n i h)
-  number_le (no h) = omega (arith, number_out n i (omega arith))
-
   number_back : Dec (i < n) → (j : ℕ) → numbered n i ≡ suc j → (i < n) × (i ≡ j)
   number_back (yes h) j e = (h, omega (arith, number_in n i h))
   number_back (no h) j e = absurd (omega (arith, number_out n i (omega arith)))
@@ -79,10 +74,6 @@ module _ (low : List Line) where
     first_before : (i : ℕ) → i < n → named t (line_at low i) ≡ true → first ≤ i
     unfolding named_at
     first_before i h e = place_least (named_at t low) n 0 i (omega arith) (omega arith) e
-
-    label_le : label_number t low ≤ n
-    unfolding label_number
-    label_le = number_le n first (dec_lt first n)
 
     module _ (once : count (named t) low ≤ 1) (i : ℕ) (u : List ℕ) (e : sort (line_at low i) ≡ label u) where
       first_is_lem : i < n → same u t ≡ true → first ≡ i
@@ -142,8 +133,8 @@ module _ (low : List Line) (p : Plain low) (few : length low < 16777216) (i : �
   name_le : (s : Sort) → name_in low i s ≤ length low
   unfolding name_in
   name_le (label t) = h
-  name_le (cond_to t) = label_le low t
-  name_le (jump_to t) = label_le low t
+  name_le (cond_to t) = label_le t low
+  name_le (jump_to t) = label_le t low
   name_le plain = omega arith
   name_le if_open = omega arith
   name_le close = omega arith
@@ -195,7 +186,7 @@ module _ (low : List Line) (ls ks t : List ℕ) (held : (i : ℕ) → i < length
   unfolding sorted at
   sorted_at R r i h =
       let f = row_of (lines_in ls ks t (length low)) in
-      let z : least (length low) (length R) ≡ length low = least_left (length low) (length R) r in
+      let z : min (length low) (length R) ≡ length low = least_left (length low) (length R) r in
       rw z
       (get_or-append (map f (range 0 (length low))) (drop (length low) R) 0 i (omega (arith, below_length f (length low)))
       ∙ below_at f (length low) i 0 h ∙ ap (λ (xs : List Line). row_of xs i) lines_held)

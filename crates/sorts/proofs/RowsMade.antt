@@ -3,7 +3,7 @@ use mathlib.Core.Path.{◌≡◌, refl, sym, ap, ap₂, ◌∙◌}
 use mathlib.Core.Bool.{Bool, true, false}
 use mathlib.Core.Option.{Option}
 use mathlib.Core.List.{List, ◌∷◌, ◌++◌, map}
-use Prim.Native.Nat.{ℕ, suc, ◌+◌, ◌*◌, ◌-◌, ◌%◌, ◌≤◌, ◌<◌}
+use Prim.Native.Nat.{min, ℕ, suc, ◌+◌, ◌*◌, ◌-◌, ◌%◌, ◌≤◌, ◌<◌}
 use native.Mathlib.Omega.{arith}
 use native.Mathlib.Numerals.{add-one}
 use lib.ListN.{length, drop, set, length-append, length-drop}
@@ -14,10 +14,8 @@ use Rattle.definition.specs.Tokens.{Token, Line, keyword}
 use Rattle.definition.specs.Sorts.{Sort, sort, sort_of, sort_at, sort_rest, sort_jump, is_label, goto_target, first_is}
 use Rattle.records.proofs.Ranges.{map_last}
 use Rattle.sheet.specs.Buffers.{text_at, tokens_in, first_of, last_of, line_in}
-use Rattle.sheet.specs.Ranges.{least}
 use Rattle.sheet.proofs.Reading.{least_le}
-use Rattle.sorts.specs.declared.lines.Target.{Target}
-use Rattle.sorts.specs.declared.lines.Target.TheVariants.{Token as At, Nowhere}
+use Rattle.std.specs.Prelude.{Option as Place, Some, None}
 use Rattle.sorts.specs.Places.{target_text}
 use Rattle.sorts.specs.Sorted.{label_number, kind_in, jump_kind, name_in, packed, row_of, lines_in, sorted}
 use Rattle.sorts.proofs.Ranges.{below_length}
@@ -29,14 +27,6 @@ unfolding packed
 packed_is k d m o = refl
 
 -- ---- a row
-pub jump_if : (b c : Bool) → b ≡ c → b ≡ true → 2 ≡ jump_kind c
-unfolding jump_kind
-jump_if b c e z = rw (← e, z)
-
-pub jump_other : (b c : Bool) → b ≡ c → b ≡ false → 3 ≡ jump_kind c
-unfolding jump_kind
-jump_other b c e z = rw (← e, z)
-
 jump_row : (b : Bool) (u : List ℕ) (xs : List Line) (d i : ℕ)
     → packed (kind_in (sort_jump b u)) d (name_in xs i (sort_jump b u)) i ≡ packed (jump_kind b) d (label_number u xs) i
 unfolding sort_jump jump_kind kind_in name_in
@@ -71,26 +61,26 @@ module _ (ls ks t : List ℕ) (n i : ℕ) (h : i < n) (a e d : ℕ) (first : a �
         let s = row_by _ (sort_by ∙ ap (λ (z : Bool). sort_at z (goto_target ts) ts) z) in
         q ∙ ap (λ (m : ℕ). packed 1 d m i) (add-one i) ∙ sym s
 
-    module _ (z : b ≡ false) (g : Target) (target : target_text ks t g ≡ goto_target ts) where
+    module _ (z : b ≡ false) (g : Place ℕ) (target : target_text ks t g ≡ goto_target ts) where
       target_by : sort_of ts ≡ sort_at false (target_text ks t g) ts
       target_by = sort_by ∙ ap₂ (λ (z : Bool) (o : Option (List ℕ)). sort_at z o ts) z (sym target)
 
-      pub row_plain : g ≡ Nowhere → (r : ℕ) → r ≡ packed 4 d 0 i → r ≡ row_of xs i
+      pub row_plain : g ≡ None → (r : ℕ) → r ≡ packed 4 d 0 i → r ≡ row_of xs i
       unfolding sort_at target_text kind_in name_in
       row_plain w r q =
-          let s = row_by (sort_rest ts) (target_by ∙ ap (λ (g : Target). sort_at false (target_text ks t g) ts) w) in
+          let s = row_by (sort_rest ts) (target_by ∙ ap (λ (g : Place ℕ). sort_at false (target_text ks t g) ts) w) in
           q ∙ sym (s ∙ rest_sort (λ z. packed (kind_in z) d (name_in xs i z) i ≡ packed 4 d 0 i) refl refl refl refl refl ts)
 
-      pub row_jump : (p m k : ℕ) → g ≡ At p → m ≡ label_number (text_at ks t p) xs → k ≡ jump_kind (first_is (keyword (txt "if")) ts) → (r : ℕ) → r ≡ packed k d m i
+      pub row_jump : (p m k : ℕ) → g ≡ Some p → m ≡ label_number (text_at ks t p) xs → k ≡ jump_kind (first_is (keyword (txt "if")) ts) → (r : ℕ) → r ≡ packed k d m i
           → r ≡ row_of xs i
       unfolding sort_at target_text
       row_jump p m k w name kind r q =
           let u = text_at ks t p in
-          let s = row_by (sort_jump (first_is (keyword (txt "if")) ts) u) (target_by ∙ ap (λ (g : Target). sort_at false (target_text ks t g) ts) w) in
+          let s = row_by (sort_jump (first_is (keyword (txt "if")) ts) u) (target_by ∙ ap (λ (g : Place ℕ). sort_at false (target_text ks t g) ts) w) in
           q ∙ ap₂ (λ (k m : ℕ). packed k d m i) kind name ∙ sym (s ∙ jump_row (first_is (keyword (txt "if")) ts) u xs d i)
 
 -- ---- the table
-pub least_both : (n k m i : ℕ) → m ≡ least n k → i < m → (i < n) × (i < k)
+pub least_both : (n k m i : ℕ) → m ≡ min n k → i < m → (i < n) × (i < k)
 least_both n k m i e h = let b = least_le n k in (omega (arith, b.0), omega (arith, b.1))
 
 module _ (f : ℕ → ℕ) (R₀ : List ℕ) where
@@ -119,9 +109,9 @@ module _ (f : ℕ → ℕ) (R₀ : List ℕ) where
       within = omega arith;
     }
 
-pub filled_end : (ls ks t : List ℕ) (n m i : ℕ) (R₀ R : List ℕ) → m ≡ least n (length R₀) → i ≤ m → m ≤ i → Filled (row_of (lines_in ls ks t n)) R₀ i R
+pub filled_end : (ls ks t : List ℕ) (n m i : ℕ) (R₀ R : List ℕ) → m ≡ min n (length R₀) → i ≤ m → m ≤ i → Filled (row_of (lines_in ls ks t n)) R₀ i R
     → R ≡ sorted ls ks t n R₀
 unfolding sorted
 filled_end ls ks t n m i R₀ R e h k g =
-    let z : i ≡ least n (length R₀) = omega arith in
+    let z : i ≡ min n (length R₀) = omega arith in
     g.is ∙ ap (λ (j : ℕ). map (row_of (lines_in ls ks t n)) (range 0 j) ++ drop j R₀) z

@@ -5,6 +5,7 @@ use mathlib.Core.Bool.{Bool, true, false, ◌&&◌, and-false, and-true}
 use mathlib.Core.Option.{Option, none}
 use mathlib.Core.List.{List, [], ◌∷◌}
 use Prim.Native.Nat.{ℕ, zero, suc, ◌+◌, ◌-◌, ◌≤◌, ◌<◌}
+use native.Mathlib.Decide.{dec_lt}
 use native.Mathlib.Omega.{arith}
 use borrow.Author.Tests.{eq-eqb, ne_eqb}
 use lib.Dec.{eqb}
@@ -15,18 +16,9 @@ use Rattle.definition.specs.Sorts.{is_tok, first_is, first_text, is_label, first
 use Rattle.definition.proofs.Bools.{by_test}
 use Rattle.sheet.specs.Buffers.{kind_at, start_at, end_at, text_at, token_at, tokens_in}
 use Rattle.sheet.specs.Ranges.{between}
-use Rattle.sorts.specs.declared.lines.Target.TheVariants.{Token as At, Nowhere}
-use Rattle.sorts.specs.Places.{first_place, goto_at, symbol_at, target_text}
-use Rattle.sorts.proofs.Searches.{place_within}
-
-module _ (ks : List ℕ) (j x : ℕ) (e : x ≡ kind_at ks j) where
-  pub symbol_is : x ≡ 4 → symbol_at ks j ≡ true
-  unfolding symbol_at
-  symbol_is q = rw (← e, eq-eqb x 4 q)
-
-  pub symbol_not : (x ≡ 4 → ⊥) → symbol_at ks j ≡ false
-  unfolding symbol_at
-  symbol_not q = rw (← e, ne_eqb x 4 q)
+use Rattle.std.specs.Prelude.{Option as Place, Some, None}
+use Rattle.sorts.specs.Places.{found, first_place, goto_at, symbol_at, target_text}
+use Rattle.sorts.proofs.Searches.{place_within, found_in, found_out}
 
 module _ (ks t : List ℕ) where
   tokens_none : (a n : ℕ) → n ≡ 0 → tokens_in ks t a n ≡ []
@@ -105,8 +97,8 @@ module _ (ks t : List ℕ) where
   unfolding goto_target goto_at
   goto_on a ts q = rw q
 
-  module _ (a e g : ℕ) (found : g ≡ first_place (goto_at ks t) a (e - a)) where
-    pub target_none : e ≤ g → target_text ks t Nowhere ≡ goto_target (tokens_in ks t a (e - a))
+  module _ (a e g : ℕ) (at : g ≡ first_place (goto_at ks t) a (e - a)) where
+    pub target_none : e ≤ g → target_text ks t None ≡ goto_target (tokens_in ks t a (e - a))
     unfolding target_text goto_target
     target_none h = sym (seek_none goto_target (goto_at ks t) refl goto_on (e - a) a (omega (arith, (place_within (goto_at ks t) (e - a) a).0)))
 
@@ -115,15 +107,22 @@ module _ (ks t : List ℕ) where
       unfolding goto_target goto_at
       behind =
           let w = (place_within (goto_at ks t) (e - a) a).0 in
-          let r = seek_some goto_target (goto_at ks t) refl goto_on (e - a) a g e found (omega arith) h in
+          let r = seek_some goto_target (goto_at ks t) refl goto_on (e - a) a g e at (omega arith) h in
           r.1 ∙ rw r.0
 
-      pub target_ended : e ≤ s → target_text ks t Nowhere ≡ goto_target (tokens_in ks t a (e - a))
+      pub target_ended : e ≤ s → target_text ks t None ≡ goto_target (tokens_in ks t a (e - a))
       unfolding target_text first_symbol
       target_ended k = sym (behind ∙ seek_none first_symbol (symbol_at ks) refl symbol_on (e - (g + 1)) (g + 1) (omega arith))
 
-      pub target_at : s < e → target_text ks t (At s) ≡ goto_target (tokens_in ks t a (e - a))
+      pub target_at : s < e → target_text ks t (Some s) ≡ goto_target (tokens_in ks t a (e - a))
       unfolding target_text first_symbol symbol_at token_at
       target_at k =
           let r = seek_some first_symbol (symbol_at ks) refl symbol_on (e - (g + 1)) (g + 1) s e next (omega arith) k in
           sym (behind ∙ r.1 ∙ rw r.0)
+
+      pub target_found : (r : Place ℕ) → r ≡ found e s → target_text ks t r ≡ goto_target (tokens_in ks t a (e - a))
+      target_found r q = ap (target_text ks t) q ∙ go (dec_lt s e)
+        where
+          go : Dec (s < e) → target_text ks t (found e s) ≡ goto_target (tokens_in ks t a (e - a))
+          go (yes k) = ap (target_text ks t) (found_in e s k) ∙ target_at k
+          go (no k) = ap (target_text ks t) (found_out e s (omega arith)) ∙ target_ended (omega arith)

@@ -1,12 +1,11 @@
 -- A row for each lowered line: what the passes read off its tokens, with a label's name being 1 + its line.
-use Rattle.std.specs.Prelude.{Bool, cond, List, ◌++◌, map, ℕ, suc, ◌+◌, ◌*◌, ◌%◌, ltb, length, drop}
+use Rattle.std.specs.Prelude.{min, Bool, cond, Option, Some, None, List, ◌++◌, map, ℕ, suc, ◌+◌, ◌*◌, ◌%◌, ltb, length, drop}
 use Rattle.definition.specs.Lists.{range}
 use Rattle.definition.specs.Tokens.{Line}
 use Rattle.definition.specs.Sorts.{Sort, sort}
 use Rattle.definition.specs.Sorts.Sort.{label, cond_to, jump_to, plain, if_open, close, do_open, while_close}
 use Rattle.definition.specs.Passes.{named}
 use Rattle.sheet.specs.Buffers.{line_in}
-use Rattle.sheet.specs.Ranges.{least}
 use Rattle.outline.specs.Rows.{LABEL, COND, JUMP, line_at}
 use Rattle.sorts.specs.Places.{first_place}
 
@@ -17,6 +16,11 @@ named_at t xs i = named t (line_at xs i)
 -- 1 + a line of n; 0 for the end
 unfoldable pub numbered : ℕ → ℕ → ℕ
 numbered n i = cond (ltb i n) (suc i) 0
+
+-- a label's name: 1 + its line, and 0 where there is none
+abbrev pub number_of : Option ℕ → ℕ
+number_of (Some i) = suc i
+number_of None = 0
 
 -- the name of a goto to t: that of the first label t, 0 where there is none
 unfoldable pub label_number : List ℕ → List Line → ℕ
@@ -62,4 +66,4 @@ lines_in ls ks t n = map (line_in ls ks t) (range 0 n)
 
 -- the table R with their rows in front, as many as it has room for
 unfoldable pub sorted : List ℕ → List ℕ → List ℕ → ℕ → List ℕ → List ℕ
-sorted ls ks t n R = let m = least n (length R) in map (row_of (lines_in ls ks t n)) (range 0 m) ++ drop m R
+sorted ls ks t n R = let m = min n (length R) in map (row_of (lines_in ls ks t n)) (range 0 m) ++ drop m R

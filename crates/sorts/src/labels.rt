@@ -3,35 +3,20 @@ ghost use Rattle.std.specs.Prelude.{◌≡◌};
 ghost use Rattle.definition.specs.Texts.{same};
 ghost use Rattle.definition.specs.Passes.{named};
 ghost use Rattle.sheet.specs.Buffers.{text_at, line_in};
-ghost use Rattle.sheet.specs.Ranges.{between};
-ghost use Rattle.sorts.specs.Sorted.{label_number, lines_in};
+ghost use Rattle.sorts.specs.Sorted.{number_of, label_number, lines_in};
 
 use crate::lines::is_label;
 use sheet::lines::{first_of, last_of};
-use sheet::ranges::{is_between, least};
+use sheet::ranges::{is_between, part};
 use sheet::tokens::{end_at, start_at};
-
-// Whether two ranges of the text are equal.
-fn same_range(text: &[u8], a: usize, b: usize, c: usize, d: usize) -> bool
-    ensures { result ≡ same (between text.now a b) (between text.now c d) }
-{
-    let e = least(d, text.len());
-    let s = least(c, e);
-    is_between(text, a, b, &text[s..e])
-}
 
 // Whether the tokens at two places have the same text.
 fn same_name(tokens: &[u64], text: &[u8], i: usize, j: usize) -> bool
     ensures { result
         ≡ same (text_at tokens.now text.now i) (text_at tokens.now text.now j) }
 {
-    same_range(
-        text,
-        start_at(tokens, i),
-        end_at(tokens, i),
-        start_at(tokens, j),
-        end_at(tokens, j),
-    )
+    let name = part(text, start_at(tokens, j), end_at(tokens, j));
+    is_between(text, start_at(tokens, i), end_at(tokens, i), name)
 }
 
 // Whether line i is the label that the token at place p names.
@@ -40,23 +25,13 @@ fn is_named(lines: &[u64], tokens: &[u64], text: &[u8], i: usize, p: usize) -> b
         ≡ named (text_at tokens.now text.now p) (line_in lines.now tokens.now text.now i) }
 {
     let a = first_of(lines, i);
-    if is_label(tokens, text, a, last_of(lines, i)) {
-        return same_name(tokens, text, a, p);
-    }
-    false
+    is_label(tokens, text, a, last_of(lines, i)) && same_name(tokens, text, a, p)
 }
 
-// 1 + the first of n lines that is the label; 0 where none is.
-pub fn find_label(lines: &[u64], tokens: &[u64], text: &[u8], n: usize, p: usize) -> usize
-    ensures { result
+// The first of n lines that is the label.
+pub fn find_label(lines: &[u64], tokens: &[u64], text: &[u8], n: usize, p: usize) -> Option<usize>
+    ensures { number_of result
         ≡ label_number (text_at tokens.now text.now p) (lines_in lines.now tokens.now text.now n) }
 {
-    let mut i = 0;
-    while i < n {
-        if is_named(lines, tokens, text, i, p) {
-            return i + 1;
-        }
-        i += 1;
-    }
-    0
+    (0..n).find(|i| is_named(lines, tokens, text, *i, p))
 }

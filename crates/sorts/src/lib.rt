@@ -12,10 +12,9 @@ ghost use Rattle.sheet.specs.Buffers.{tokens_in};
 ghost use Rattle.sorts.specs.Sorted.{jump_kind, packed, row_of, lines_in, sorted};
 
 use crate::labels::find_label;
-use crate::lines::{Target, goto_target, is_if, is_label};
+use crate::lines::{goto_target, is_if, is_label};
 use outline::rows::{COND, JUMP, LABEL};
 use sheet::lines::{first_of, last_of, line_number};
-use sheet::ranges::least;
 
 // The kind of all other lines.
 const PLAIN: u64 = 4;
@@ -31,13 +30,15 @@ fn pack(kind: u64, indent: u64, name: usize, origin: usize) -> u64
 }
 
 // The kind of the goto that stands from place a up to place e.
+#[tactic(auto, unfolding(crate::specs::Sorted::jump_kind))]
 fn jump_kind(tokens: &[u64], text: &[u8], a: usize, e: usize) -> u64
     ensures { result ≡ jump_kind (first_is (keyword (txt "if")) (tokens_in tokens.now text.now a (e - a))) }
 {
     if is_if(tokens, text, a, e) {
-        return COND;
+        COND
+    } else {
+        JUMP
     }
-    JUMP
 }
 
 // The row of line i of n.
@@ -51,11 +52,15 @@ fn row(lines: &[u64], tokens: &[u64], text: &[u8], n: usize, i: usize) -> u64
     if is_label(tokens, text, a, e) {
         return pack(LABEL, d, i + 1, i);
     }
-    let Target::Token(p) = goto_target(tokens, text, a, e) else {
+    let Some(p) = goto_target(tokens, text, a, e) else {
         return pack(PLAIN, d, 0, i);
     };
-    let m = find_label(lines, tokens, text, n, p);
-    pack(jump_kind(tokens, text, a, e), d, m, i)
+    // A label's name is 1 + its line, and 0 is that of none.
+    let name = match find_label(lines, tokens, text, n, p) {
+        Some(label) => label + 1,
+        None => 0,
+    };
+    pack(jump_kind(tokens, text, a, e), d, name, i)
 }
 
 // The rows of the first n lines, as many as there is room for.
@@ -63,10 +68,8 @@ pub fn sorts(rows: &mut [u64], lines: &[u64], tokens: &[u64], text: &[u8], n: us
     ensures { rows.new
         ≡ sorted lines.now tokens.now text.now n rows.old }
 {
-    let m = least(n, rows.len());
-    let mut i = 0;
-    while i < m {
+    let m = n.min(rows.len());
+    for i in 0..m {
         rows[i] = row(lines, tokens, text, n, i);
-        i += 1;
     }
 }

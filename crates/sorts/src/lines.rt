@@ -4,17 +4,10 @@ ghost use Rattle.definition.specs.Texts.{txt};
 ghost use Rattle.definition.specs.Tokens.{keyword};
 ghost use Rattle.definition.specs.Sorts.{is_label, first_is, goto_target};
 ghost use Rattle.sheet.specs.Buffers.{tokens_in};
-ghost use Rattle.sorts.specs.Places.{first_place, goto_at, symbol_at, target_text};
+ghost use Rattle.sorts.specs.Places.{found, first_place, goto_at, symbol_at, target_text};
 
 use sheet::ranges::is_between;
 use sheet::tokens::{end_at, kind_at, start_at, token_is};
-
-// The place of the token that a goto names.
-#[derive(Clone, Copy)]
-pub enum Target {
-    Token(usize),
-    Nowhere,
-}
 
 const KEYWORD: u32 = 3;
 
@@ -24,68 +17,39 @@ const SYMBOL: u32 = 4;
 pub fn is_label(tokens: &[u64], text: &[u8], a: usize, e: usize) -> bool
     ensures { result ≡ is_label (tokens_in tokens.now text.now a (e - a)) }
 {
-    if e <= a {
+    if e.saturating_sub(a) != 2 {
         return false;
     }
-    if e - a != 2 {
-        return false;
-    }
-    if kind_at(tokens, a) != SYMBOL {
-        return false;
-    }
-    is_between(text, start_at(tokens, a + 1), end_at(tokens, a + 1), b":")
+    kind_at(tokens, a) == SYMBOL
+        && is_between(text, start_at(tokens, a + 1), end_at(tokens, a + 1), b":")
 }
 
 // Whether it begins with `if`.
 pub fn is_if(tokens: &[u64], text: &[u8], a: usize, e: usize) -> bool
     ensures { result ≡ first_is (keyword (txt "if")) (tokens_in tokens.now text.now a (e - a)) }
 {
-    if e <= a {
-        return false;
-    }
-    token_is(tokens, text, a, KEYWORD, b"if")
+    a < e && token_is(tokens, text, a, KEYWORD, b"if")
 }
 
 // The first `goto`.
-fn goto_at(tokens: &[u64], text: &[u8], a: usize, e: usize) -> usize
-    ensures { result ≡ first_place (goto_at tokens.now text.now) a (e - a) }
+fn goto_at(tokens: &[u64], text: &[u8], a: usize, e: usize) -> Option<usize>
+    ensures { result ≡ found e (first_place (goto_at tokens.now text.now) a (e - a)) }
 {
-    let mut j = a;
-    while j < e {
-        if token_is(tokens, text, j, KEYWORD, b"goto") {
-            return j;
-        }
-        j += 1;
-    }
-    j
+    (a..e).find(|j| token_is(tokens, text, *j, KEYWORD, b"goto"))
 }
 
 // The first Symbol.
-fn symbol_at(tokens: &[u64], a: usize, e: usize) -> usize
-    ensures { result ≡ first_place (symbol_at tokens.now) a (e - a) }
+fn symbol_at(tokens: &[u64], a: usize, e: usize) -> Option<usize>
+    ensures { result ≡ found e (first_place (symbol_at tokens.now) a (e - a)) }
 {
-    let mut j = a;
-    while j < e {
-        if kind_at(tokens, j) == SYMBOL {
-            return j;
-        }
-        j += 1;
-    }
-    j
+    (a..e).find(|j| kind_at(tokens, *j) == SYMBOL)
 }
 
-// The first Symbol behind the first `goto`.
-pub fn goto_target(tokens: &[u64], text: &[u8], a: usize, e: usize) -> Target
+// The place of the token that a goto names: the first Symbol behind the first `goto`.
+pub fn goto_target(tokens: &[u64], text: &[u8], a: usize, e: usize) -> Option<usize>
     ensures { target_text tokens.now text.now result
         ≡ goto_target (tokens_in tokens.now text.now a (e - a)) }
 {
-    let g = goto_at(tokens, text, a, e);
-    if e <= g {
-        return Target::Nowhere;
-    }
-    let s = symbol_at(tokens, g + 1, e);
-    if e <= s {
-        return Target::Nowhere;
-    }
-    Target::Token(s)
+    let g = goto_at(tokens, text, a, e)?;
+    symbol_at(tokens, g + 1, e)
 }

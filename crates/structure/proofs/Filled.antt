@@ -13,7 +13,6 @@ use Rattle.definition.proofs.Plain.{Plain}
 use Rattle.room.proofs.Proper.{Kind8, Proper}
 use Rattle.room.proofs.Words.{words_length, rows_length}
 use Rattle.sheet.specs.Buffers.{start_at, end_at, first_of, last_of}
-use Rattle.sheet.specs.declared.ends.Run.TheVariants.{Bytes}
 use Rattle.sheet.proofs.Reading.{start_first, start_later}
 use Rattle.sheet.proofs.Held.{held, padded_at, kinds_all}
 use Rattle.clips.specs.Clip.{Rises}
@@ -30,11 +29,11 @@ words_rise n (t ∷ u ∷ us) (k ▸ (i ▸ e)) zero h = omega arith
 words_rise n (t ∷ u ∷ us) (k ▸ e) (suc j) h = words_rise (n + length t.text) (u ∷ us) e j (omega arith)
 
 ends_rise : (T : ℕ) {ts : List Token} → Each Kind8 ts → (j : ℕ) → j < length ts → start_at (padded T (token_words 0 ts)) j ≤ end_at (padded T (token_words 0 ts)) j
-ends_rise T {ts} e zero h = omega (arith, start_first Bytes (padded T (token_words 0 ts)) 0 refl)
+ends_rise T {ts} e zero h = omega (arith, start_first (end_at (padded T (token_words 0 ts))) 0 refl)
 ends_rise T {ts} e (suc j) h =
     let K = padded T (token_words 0 ts) in
     let p : suc j - 1 ≡ j = omega arith in
-    let s = start_later Bytes K (suc j) (end_at K j) (λ z. omega arith) (ap (end_at K) (sym p)) in
+    let s = start_later (end_at K) (suc j) (end_at K j) (λ z. omega arith) (ap (end_at K) (sym p)) in
     let n = words_length 0 ts in
     omega (arith, s, words_rise 0 ts e j h, padded_at T (token_words 0 ts) j (omega arith), padded_at T (token_words 0 ts) (suc j) (omega arith))
 

@@ -2,25 +2,25 @@
 use mathlib.Core.Path.{◌≡◌, sym, subst}
 use mathlib.Core.Bool.{Bool, true, false}
 use mathlib.Core.List.{List}
-use Prim.Native.Nat.{ℕ, zero, suc, ◌+◌, ◌-◌, ◌/◌, ◌%◌, ◌≤◌, ◌<◌}
+use Prim.Native.Nat.{min, ℕ, zero, suc, ◌+◌, ◌-◌, ◌/◌, ◌%◌, ◌≤◌, ◌<◌}
 use native.Mathlib.Omega.{arith}
 use borrow.Author.Tests.{ltb-true}
 use lib.Dec.{eqb, ltb}
 use lib.ListN.{length, take, set, replicate}
+use Rattle.std.specs.Prelude.{Result, Ok, Err}
+use Rattle.passes.specs.declared.sweeps.Formed.{Formed}
 use Rattle.definition.specs.Tokens.{Line}
 use Rattle.definition.specs.Sorts.{sort}
 use Rattle.definition.specs.Lists.{at}
 use Rattle.definition.proofs.Bools.{by_cond}
 use Rattle.definition.proofs.ListLaws.{Each, end, ◌▸◌, each_append, each_map, each_take, each_drop, each_range, each_only}
-use Rattle.sheet.specs.Ranges.{least}
 use Rattle.sheet.proofs.Reading.{least_left}
-use Rattle.passes.specs.declared.sweeps.Passed.{Passed}
-use Rattle.passes.specs.declared.sweeps.Passed.TheVariants.{Done, TooDeep}
+use Rattle.passes.specs.declared.sweeps.TooDeep.{TooDeep}
 use Rattle.outline.specs.Rows.{origin_of, line_at}
 use Rattle.outline.specs.Spans.{spans_of}
 use Rattle.outline.specs.Forming.{raised, turned, changed_in, inserted}
 use Rattle.passes.specs.Regions.{opened, whiled, headed, close_row, formed_if, formed_do, if_goal, do_goal}
-use Rattle.passes.specs.Sweeps.{Tried, tried_at, if_tried, do_tried, Swept, sweep_rows, keeps, if_rows, do_rows}
+use Rattle.passes.specs.Sweeps.{more, swept, Tried, tried_at, if_tried, do_tried, Swept, sweep_rows, keeps, if_rows, do_rows}
 use Rattle.passes.specs.Dropping.{kept_row, kept_rows, drop_rows}
 use Rattle.sorts.specs.Sorted.{kind_in, name_in, packed, row_of, lines_in, sorted}
 use Rattle.structure.specs.Runs.{behind_loops, loops_ran, behind_ifs, ifs_ran, ran_of}
@@ -113,20 +113,25 @@ module _ (N : ℕ) (some : 0 < N) where
   tried_below false true R S Q m h g = h
   tried_below false false R S Q m h g = g
 
-  sweep_below : (try : List ℕ → List ℕ → ℕ → ℕ → Tried) (grown : ℕ → ℕ → ℕ) → ((R S : List ℕ) (n k : ℕ) → All R → All (try R S n k).rows)
+  sweep_below : (try : List ℕ → List ℕ → ℕ → ℕ → Tried) (grown : ℕ → Bool → ℕ) → ((R S : List ℕ) (n k : ℕ) → All R → All (try R S n k).rows)
       → (f : ℕ) (R S : List ℕ) (k n c : ℕ) → All R → All (sweep_rows try grown f R S k n c).rows
   unfolding sweep_rows
   sweep_below try grown keep zero R S k n c h = h
   sweep_below try grown keep (suc f) R S k n c h =
       let t = try R S n k in
-      by_cond (λ (s : Swept). All s.rows) (ltb k n)
-      (λ e. by_cond (λ (s : Swept). All s.rows) (eqb t.says 2) (λ q. keep R S n k h)
-      (λ q. sweep_below try grown keep f t.rows t.spans (suc k) (grown n t.says) (c + t.says) (keep R S n k h)))
-      (λ e. h)
+      by_cond (λ (s : Swept). All s.rows) (ltb k n) (λ e. go t.says t.rows t.spans (keep R S n k h) (sweep_below try grown keep f)) (λ e. h)
+    where
+      on : Result Bool TooDeep → List ℕ → List ℕ → Swept
+      on v Q T = elim v [ Err x ↦ swept (Err x) Q T | Ok b ↦ sweep_rows try grown f Q T (suc k) (grown n b) (more c b) ]
+
+      go : (v : Result Bool TooDeep) (Q T : List ℕ) → All Q → ((R S : List ℕ) (k n c : ℕ) → All R → All (sweep_rows try grown f R S k n c).rows)
+          → All (on v Q T).rows
+      go (Err x) Q T g i = g
+      go (Ok b) Q T g i = i Q T (suc k) (grown n b) (more c b) g
 
   ifs_below : (R S : List ℕ) (n : ℕ) → All R → All (if_rows R S n).rows
   unfolding if_rows if_tried
-  ifs_below R S n h = sweep_below if_tried ◌+◌ (λ Q T m k g. tried_below _ _ Q T _ (m + 1) g (if_below Q m k (if_goal Q T m k) g)) (length R + n) R (spans_of (length S) R n) 0 n 0 h
+  ifs_below R S n h = sweep_below if_tried more (λ Q T m k g. tried_below _ _ Q T _ (m + 1) g (if_below Q m k (if_goal Q T m k) g)) (length R + n) R (spans_of (length S) R n) 0 n 0 h
 
   loops_below : (R S : List ℕ) (n : ℕ) → All R → All (do_rows R S n).rows
   unfolding do_rows do_tried
@@ -137,15 +142,15 @@ module _ (N : ℕ) (some : 0 < N) where
   drop_below R l n h =
       each_append (each_only (kept_row (spans_of l R n) n) (each_take n h)) (each_append (each_replicate (length (take n R) - length (kept_rows R l n)) 0 zero_below) (each_drop n h))
 
-  behind_loops_lem : (c : ℕ) (v : Passed) (R S : List ℕ) → All R → All (behind_loops c v R S).rows
+  behind_loops_lem : (c : ℕ) (v : Result Formed TooDeep) (R S : List ℕ) → All R → All (behind_loops c v R S).rows
   unfolding behind_loops
-  behind_loops_lem c TooDeep R S h = h
-  behind_loops_lem c (Done f) R S h = drop_below R (length S) f.rows h
+  behind_loops_lem c (Err e₀) R S h = h
+  behind_loops_lem c (Ok f) R S h = drop_below R (length S) f.rows h
 
-  behind_ifs_lem : (v : Passed) (R S : List ℕ) → All R → All (behind_ifs v R S).rows
+  behind_ifs_lem : (v : Result Formed TooDeep) (R S : List ℕ) → All R → All (behind_ifs v R S).rows
   unfolding behind_ifs loops_ran
-  behind_ifs_lem TooDeep R S h = h
-  behind_ifs_lem (Done f) R S h =
+  behind_ifs_lem (Err e₀) R S h = h
+  behind_ifs_lem (Ok f) R S h =
       let s = do_rows R S f.rows in
       behind_loops_lem f.regions s.passed s.rows s.spans (loops_below R S f.rows h)
 
@@ -161,6 +166,6 @@ module _ (N : ℕ) (some : 0 < N) where
   pub sorted_below : (ls ks t R : List ℕ) → N ≤ length R → R ≡ replicate (length R) 0 → All (sorted ls ks t N R)
   unfolding sorted
   sorted_below ls ks t R long z =
-      let m : least N (length R) ≡ N = least_left N (length R) long in
+      let m : min N (length R) ≡ N = least_left N (length R) long in
       let clean : All R = subst All (sym z) (each_replicate (length R) 0 zero_below) in
       rw m (each_append (each_range (row_of (lines_in ls ks t N)) 0 N (λ i h. row_below (lines_in ls ks t N) i (omega arith))) (each_drop N clean))

@@ -7,7 +7,7 @@ use Rattle.definition.specs.Tokens.{Line}
 use Rattle.definition.specs.Listing.{tests}
 use Rattle.definition.proofs.Unique.{equation}
 use Rattle.sorts.specs.Sorted.{lines_in}
-use Rattle.structure.specs.declared.answers.Structured.{Structured}
+use Rattle.structure.specs.Answers.{Structured}
 use Rattle.structure.specs.Runs.{Ran, ran_of}
 use Rattle.structure.specs.Lowered.{Given, Lends, result_in, Finishes}
 

@@ -8,6 +8,8 @@ use native.Mathlib.Omega.{arith}
 use native.Mathlib.Decide.{dec_lt}
 use lib.ListN.{length, take, replicate}
 use lib.Seq.{length-take-le}
+use Rattle.std.specs.Prelude.{Ok, Err}
+use Rattle.passes.specs.Sweeps.{too_deep}
 use Rattle.definition.specs.Edition.{Room as Limits}
 use Rattle.definition.specs.Lists.{has, at}
 use Rattle.definition.specs.Tokens.{Line}
@@ -33,10 +35,8 @@ use Rattle.sorts.proofs.RowsLowered.{rows_lowered}
 use Rattle.finish.specs.Finishing.{lines_in, HeadedRow, Heads}
 use Rattle.finish.proofs.Agree.{agrees}
 use Rattle.structure.specs.declared.answers.Kept.{Kept}
-use Rattle.structure.specs.declared.answers.Passes.{Passes}
-use Rattle.structure.specs.declared.answers.Passes.TheVariants.{Refused, Left}
-use Rattle.structure.specs.declared.answers.Structured.{Structured as Answer}
-use Rattle.structure.specs.declared.answers.Structured.TheVariants.{TooDeep, Listed}
+use Rattle.structure.specs.Answers.{Passes}
+use Rattle.structure.specs.Answers.{Structured as Answer}
 use Rattle.structure.specs.Runs.{Ran, ran, ran_of}
 use Rattle.structure.specs.Sheets.{counts_of, HeadsLeft, Answered}
 use Rattle.structure.specs.Lowered.{Given, Known, Lends, lent, result_in, Finishes}
@@ -65,7 +65,7 @@ module _ (low : List Line) (ls ks t R S : List ℕ) (n : ℕ) (g : Given low ls 
       subst (Each (Below (length low))) (sym (ap (λ (x : Ran). x.rows) passed))
       (ran_below (length low) some_line R₁ S n (subst (Each (Below (length low))) (sym made_low) (sorted_below (length low) some_line ls ks t R (omega (arith, g.room)) g.clean)))
 
-  module _ (k : Kept) (e : p ≡ Left k) where
+  module _ (k : Kept) (e : p ≡ Ok k) where
     fin : Finished low R₁ n Z k.rows k.ifs k.loops
     fin = said.lists k e
 
@@ -123,11 +123,11 @@ module _ (low : List Line) (ls ks t R S : List ℕ) (n : ℕ) (g : Given low ls 
     same_result r₁ u v w e f h i =
         ap (λ (y : Answer). result_in y l' d' x') e ∙ ap (λ (y : List ℕ). result_in r₁ y d' x') f ∙ ap (λ (y : List ℕ). result_in r₁ u y x') h ∙ ap (result_in r₁ u v) i
 
-    deep_result : p ≡ Refused → result_in r l' d' x' ≡ result_of (lent l d x) (structure low)
+    deep_result : p ≡ Err too_deep → result_in r l' d' x' ≡ result_of (lent l d x) (structure low)
     unfolding result_in result_of refusal lent
     deep_result e =
         let q = a.deep e in
-        same_result TooDeep (replicate (length l) 0) (replicate (length d) 0) (replicate (length x) 0) q.0 (q.1 ∙ b.lines) (q.2 ∙ b.tokens) (q.3 ∙ b.text)
+        same_result (Err too_deep) (replicate (length l) 0) (replicate (length d) 0) (replicate (length x) 0) q.0 (q.1 ∙ b.lines) (q.2 ∙ b.tokens) (q.3 ∙ b.text)
         ∙ ap (result_of (lent l d x)) (sym (said.deep e))
 
     blank_is : sheet_of l d x fresh ≡ blank (line_numbers * m) (length d) (length x)
@@ -137,7 +137,7 @@ module _ (low : List Line) (ls ks t R S : List ℕ) (n : ℕ) (g : Given low ls 
         ∙ ap (λ (y : List ℕ). sheet_of (replicate (line_numbers * m) 0) y x fresh) b.tokens
         ∙ ap (λ (y : List ℕ). sheet_of (replicate (line_numbers * m) 0) (replicate (length d) 0) y fresh) b.text
 
-    module _ (k : Kept) (e : p ≡ Left k) where
+    module _ (k : Kept) (e : p ≡ Ok k) where
       abbrev M : Limits
       M = record { lines = m; tokens = length d; bytes = length x }
 
@@ -155,7 +155,7 @@ module _ (low : List Line) (ls ks t R S : List ℕ) (n : ℕ) (g : Given low ls 
       unfolding lines_read filled
       read_back = below_is (line_in s.lines s.room.tokens s.room.text) (out k e) (closer 0) (λ i h. held (line_numbers * m) (length d) (length x) (out k e) (proper k e) (closer 0) i h)
 
-      success_is : result_in (Listed (counts_of s k)) s.lines s.room.tokens s.room.text ≡ success (lent l d x) (K k e)
+      success_is : result_in (Ok (counts_of s k)) s.lines s.room.tokens s.room.text ≡ success (lent l d x) (K k e)
       unfolding result_in counts_of filled success lent
       success_is = rw (b.rows, ap tests read_back)
 
@@ -163,15 +163,15 @@ module _ (low : List Line) (ls ks t R S : List ℕ) (n : ℕ) (g : Given low ls 
       unfolding result_of
       lists_result =
           let q = a.lists k e s sheet_is in
-          same_result (Listed (counts_of s k)) s.lines s.room.tokens s.room.text q.0 q.1 q.2 q.3
+          same_result (Ok (counts_of s k)) s.lines s.room.tokens s.room.text q.0 q.1 q.2 q.3
           ∙ success_is ∙ ap (result_of (lent l d x)) (sym (fin k e).lists)
 
     pub result_is : result_in r l' d' x' ≡ result_of (lent l d x) (structure low)
     result_is = go p refl
       where
         go : (q : Passes) → p ≡ q → result_in r l' d' x' ≡ result_of (lent l d x) (structure low)
-        go Refused e = deep_result e
-        go (Left k) e = lists_result k e
+        go (Err e₀) e = deep_result e
+        go (Ok k) e = lists_result k e
 
 -- ---- as the function has it
 module _ (ls ks t R S : List ℕ) (n : ℕ) (R₁ : List ℕ) (made : R₁ ≡ sorted ls ks t n R) (same : length R₁ ≡ length R) (p : Passes) (Z : List ℕ)

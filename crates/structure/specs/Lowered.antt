@@ -1,5 +1,5 @@
 -- Structuring as a whole: of the lowered lines that the buffers hold, the result of the definition's `structure` in the lent buffers.
-use Rattle.std.specs.Prelude.{◌≡◌, List, ℕ, ◌+◌, ◌*◌, ◌≤◌, ◌<◌, length, replicate}
+use Rattle.std.specs.Prelude.{◌≡◌, List, ℕ, ◌+◌, ◌*◌, ◌≤◌, ◌<◌, length, replicate, Ok, Err}
 use Rattle.definition.specs.Tokens.{Line}
 use Rattle.definition.specs.Passes.{conds}
 use Rattle.definition.specs.Listing.{Listing, Lent, Result, structure, result_of, line_numbers}
@@ -12,8 +12,7 @@ use Rattle.room.proofs.Proper.{Proper}
 use Rattle.sheet.specs.Buffers.{first_of}
 use Rattle.clips.specs.Clip.{Rises}
 use Rattle.finish.specs.Finishing.{count_of, Lows}
-use Rattle.structure.specs.declared.answers.Structured.{Structured}
-use Rattle.structure.specs.declared.answers.Structured.TheVariants.{TooDeep, Listed}
+use Rattle.structure.specs.Answers.{Structured}
 
 -- the buffers ls, ks and t hold the n lines low, which are plain; the rows are zeros, and both tables are long enough
 pub record Given (low : List Line) (ls ks t R S : List ℕ) (n : ℕ) : Type 0 where
@@ -47,7 +46,7 @@ lent l d x = record { lines = length l; tokens = length d; text = length x }
 
 -- the answer and the lent buffers as the definition has them
 unfoldable pub result_in : Structured → List ℕ → List ℕ → List ℕ → Result
-result_in TooDeep l d x = record {
+result_in (Err e₀) l d x = record {
   number = 9;
   lines = 0;
   tokens = 0;
@@ -59,7 +58,7 @@ result_in TooDeep l d x = record {
   token_buffer = d;
   text_buffer = x;
 }
-result_in (Listed c) l d x = record {
+result_in (Ok c) l d x = record {
   number = 0;
   lines = c.lines;
   tokens = c.tokens;

@@ -1,22 +1,15 @@
-// What the passes, and structuring as a whole, answer.
+// What the passes, and structuring as a whole, answer where they do not refuse.
 
 // How many rows the passes leave, and how many ifs and loops they formed.
-#[derive(Clone, Copy)]
+#[derive(Clone, Copy, PartialEq, Eq)]
 pub struct Kept {
     pub rows: usize,
     pub ifs: usize,
     pub loops: usize,
 }
 
-// Refused: a line would stand inside more than 254 open braces.
-#[derive(Clone, Copy)]
-pub enum Passes {
-    Refused,
-    Left(Kept),
-}
-
 // Of the finished lines: how many they are, their tokens and bytes, the ifs and loops formed, and the lines that begin with `if`.
-#[derive(Clone, Copy)]
+#[derive(Clone, Copy, PartialEq, Eq)]
 pub struct Counts {
     pub lines: usize,
     pub tokens: usize,
@@ -24,10 +17,4 @@ pub struct Counts {
     pub ifs: usize,
     pub loops: usize,
     pub tests: usize,
-}
-
-#[derive(Clone, Copy)]
-pub enum Structured {
-    TooDeep,
-    Listed(Counts),
 }

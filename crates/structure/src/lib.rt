@@ -7,9 +7,10 @@ mod writing;
 
 ghost use Rattle.structure.specs.Lowered.{Known, Finishes};
 
-use crate::answers::Structured;
+use crate::answers::Counts;
 use crate::passing::{passes_of, wipe};
 use crate::writing::answer;
+use passes::sweeps::TooDeep;
 use sorts::sorts;
 
 // The finished lines of the n lowered lines that stand in `from`, `lowered` and `source`. Both tables are zeros behind it.
@@ -23,7 +24,7 @@ pub fn structure(
     lowered: &[u64],
     source: &[u8],
     n: usize,
-) -> Structured
+) -> Result<Counts, TooDeep>
     requires { Known from.now lowered.now source.now rows.old spans.old n }
     ensures { Finishes from.now lowered.now source.now rows.old spans.old n
         lines.old tokens.old text.old result

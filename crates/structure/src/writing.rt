@@ -1,36 +1,26 @@
 // The finished lines written, and their tests counted.
-ghost use Rattle.std.specs.Prelude.{◌≡◌, cond};
+ghost use Rattle.std.specs.Prelude.{◌≡◌};
 ghost use Rattle.definition.specs.Listing.{tests};
 ghost use Rattle.sorts.specs.Sorted.{lines_in};
 ghost use Rattle.finish.specs.Finishing.{Heads};
 ghost use Rattle.structure.specs.Sheets.{Written, HeadsLeft, Answered};
 
-use crate::answers::{Counts, Kept, Passes, Structured};
+use crate::answers::{Counts, Kept};
 use finish::finish;
+use passes::sweeps::TooDeep;
 use room::out::Out;
 use sheet::lines::{first_of, last_of};
 use sorts::lines::is_if;
-
-fn one_if(b: bool) -> usize
-    ensures { result ≡ cond b 1 0 }
-{
-    if b {
-        return 1;
-    }
-    0
-}
 
 // How many of the first n lines begin with `if`.
 pub fn count_tests(lines: &[u64], tokens: &[u64], text: &[u8], n: usize) -> usize
     ensures { result ≡ tests (lines_in lines.now tokens.now text.now n) }
 {
     let mut c = 0;
-    let mut i = 0;
-    while i < n {
+    for i in 0..n {
         let a = first_of(lines, i);
         let e = last_of(lines, i);
-        c += one_if(is_if(tokens, text, a, e));
-        i += 1;
+        c += usize::from(is_if(tokens, text, a, e));
     }
     c
 }
@@ -68,7 +58,7 @@ fn write(
         bytes: out.bytes,
         ifs: kept.ifs,
         loops: kept.loops,
-        tests: tests,
+        tests,
     }
 }
 
@@ -78,17 +68,15 @@ pub fn answer(
     tokens: &mut [u64],
     text: &mut [u8],
     rows: &[u64],
-    passes: Passes,
+    passes: Result<Kept, TooDeep>,
     from: &[u64],
     lowered: &[u64],
     source: &[u8],
-) -> Structured
+) -> Result<Counts, TooDeep>
     requires { HeadsLeft from.now lowered.now rows.now passes }
     ensures { Answered from.now lowered.now source.now rows.now passes
         lines.old tokens.old text.old result lines.new tokens.new text.new }
 {
-    let Passes::Left(kept) = passes else {
-        return Structured::TooDeep;
-    };
-    Structured::Listed(write(lines, tokens, text, rows, kept, from, lowered, source))
+    let kept = passes?;
+    Ok(write(lines, tokens, text, rows, kept, from, lowered, source))
 }

@@ -6,9 +6,9 @@ use mathlib.Core.List.{List, ◌∷◌, ◌++◌}
 use Prim.Native.Nat.{ℕ, zero, suc}
 use lib.ListN.{length, take, drop, replicate, take-append-drop}
 use borrow.Author.Tests.{eq-eqb, ne_eqb}
+use Rattle.std.specs.Prelude.{Ok, Err}
 use Rattle.definition.specs.Listing.{structure, refusal, result_of}
-use Rattle.structure.specs.declared.answers.Structured.{Structured}
-use Rattle.structure.specs.declared.answers.Structured.TheVariants.{TooDeep, Listed}
+use Rattle.structure.specs.Answers.{Structured}
 use Rattle.structure.specs.Lowered.{Finishes, lent, result_in}
 use Rattle.lent.specs.declared.answer.Answer.{Answer}
 use Rattle.lent.specs.declared.answer.Lowered.{Lowered}
@@ -31,8 +31,8 @@ front_back k R e z q = ap (λ (a : List ℕ). a ++ drop k R) (q ∙ sym (front_z
 -- the answer in numbers is structuring's
 as_numbers : (s : Structured) (l d x : List ℕ) → answered (answer_of s) l d x ≡ result_in s l d x
 unfolding answered answer_of result_in
-as_numbers TooDeep l d x = refl
-as_numbers (Listed c) l d x = refl
+as_numbers (Err e₀) l d x = refl
+as_numbers (Ok c) l d x = refl
 
 -- a refusal over zeros
 over_zeros : (l d x R S ls ks t : List ℕ) (w : Lowered) → Lowers l d x R S ls ks t w → (n : ℕ) → answered (refused_with n) l d x ≡ refusal (lent l d x) n

@@ -7,7 +7,4 @@ use Rattle.finish.specs.Finishing.{lines_in}
 use Rattle.finish.proofs.finish.Given as goal
 
 abbrev pub invariant-loop-i : goal.invariant-loop-i
-invariant-loop-i l = (seen_sheet (sheet_of l.lines l.tokens l.text l.out) ≡ seen_sheet (write_all (sheet_of l.initial.lines l.initial.tokens l.initial.text l.initial.out) (lines_in l.from l.lowered l.source l.rows l.i))) × (l.i ≤ l.n) × (length l.lines ≡ length l.initial.lines) × (length l.tokens ≡ length l.initial.tokens) × (length l.text ≡ length l.initial.text)
-
-abbrev pub decreases-loop-i : goal.decreases-loop-i
-decreases-loop-i l = l.n - l.i
+invariant-loop-i l = (seen_sheet (sheet_of l.lines l.tokens l.text l.out) ≡ seen_sheet (write_all (sheet_of l.initial.lines l.initial.tokens l.initial.text l.initial.out) (lines_in l.from l.lowered l.source l.rows l.i))) × (length l.lines ≡ length l.initial.lines) × (length l.tokens ≡ length l.initial.tokens) × (length l.text ≡ length l.initial.text)

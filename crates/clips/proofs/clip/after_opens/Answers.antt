@@ -1,6 +1,5 @@
 -- Only ` (` stand between `from` and i, so trimming from i on is trimming all; to - i falls, since a ` (` that is found ends at `to` or before.
 use Rattle.clips.proofs.Ranges.{opens_none, opens_room, opens_turn, opens_end}
-use Prim.Native.Nat.{◌-◌}
 use mathlib.Core.Path.{sym, ◌∙◌}
 use native.Mathlib.Omega.{arith}
 use Rattle.clips.proofs.clip.after_opens.Goals as goal

@@ -4,14 +4,11 @@ use mathlib.Core.Path.{sym, ◌∙◌}
 use native.Mathlib.Omega.{arith}
 use Rattle.clips.proofs.clip.before_close.Goals as goal
 
-pub returns-then-e-lt2 : goal.returns-then-e-lt2
-returns-then-e-lt2 c = let a = c.args in close_short a.text.now a.from a.to c.least-e.result c.least-e.ensures (omega arith)
-
-pub returns-then-e-from : goal.returns-then-e-from
-returns-then-e-from c = let a = c.args in close_short a.text.now a.from a.to c.least-e.result c.least-e.ensures (omega arith)
+pub returns-then-saturating_sub-lt2 : goal.returns-then-saturating_sub-lt2
+returns-then-saturating_sub-lt2 c = let a = c.args in close_short a.text.now a.from a.to c.min-e.result c.min-e.ensures (omega arith)
 
 pub returns-then-is_between : goal.returns-then-is_between
-returns-then-is_between c = let a = c.args in close_cut a.text.now a.from a.to c.least-e.result c.least-e.ensures (omega arith) (sym c.is_between.ensures ∙ c.if-is_between.true)
+returns-then-is_between c = let a = c.args in close_cut a.text.now a.from a.to c.min-e.result c.min-e.ensures (omega arith) (sym c.is_between.ensures ∙ c.if-is_between.true)
 
-pub returns : goal.returns
-returns c = let a = c.args in close_not a.text.now a.from a.to c.least-e.result c.least-e.ensures (omega arith) (sym c.is_between.ensures ∙ c.if-is_between.false)
+pub returns-else-is_between : goal.returns-else-is_between
+returns-else-is_between c = let a = c.args in close_not a.text.now a.from a.to c.min-e.result c.min-e.ensures (omega arith) (sym c.is_between.ensures ∙ c.if-is_between.false)

@@ -3,4 +3,4 @@ use Rattle.clips.proofs.Emits.{put_range}
 use Rattle.clips.proofs.copies.put_between.Goals as goal
 
 pub returns : goal.returns
-returns c = put_range _ _ _ _ _ _ _ c.gap.ensures c.put_part.ensures
+returns c = put_range _ _ _ _ _ _ _ c.saturating_sub.ensures c.put_part.ensures

@@ -6,10 +6,10 @@ use native.Mathlib.Omega.{arith}
 use Rattle.clips.proofs.copies.put_clip.Goals as goal
 
 pub loop-k-init : goal.loop-k-init
-loop-k-init c = (texts_start _ _, omega arith, omega arith, refl, refl)
+loop-k-init c = (texts_start _ _, omega arith, refl, refl)
 
 pub loop-k-preserved : goal.loop-k-preserved
-loop-k-preserved c = let inv = c.loop-k.invariant in (texts_turn _ _ _ _ _ inv.1 c.put_clip_at-out.ensures inv.0, omega arith, omega arith, c.put_clip_at-out.auto.tokens ∙ inv.3, c.put_clip_at-out.auto.text ∙ inv.4)
+loop-k-preserved c = let inv = c.loop-k.invariant in (texts_turn _ _ _ _ _ (omega arith) c.put_clip_at-out.ensures inv.0, omega arith, c.put_clip_at-out.auto.tokens ∙ inv.2, c.put_clip_at-out.auto.text ∙ inv.3)
 
 pub returns : goal.returns
 unfolding clip

@@ -7,7 +7,4 @@ use mathlib.Core.Path.{◌≡◌}
 use Rattle.clips.proofs.copies.put_clip.Given as goal
 
 abbrev pub invariant-loop-k : goal.invariant-loop-k
-invariant-loop-k l = (seen (room_of l.tokens l.text l.out) ≡ seen (emit_all (room_of l.initial.tokens l.initial.text l.initial.out) (texts (clip_at l.lowered l.source l.c) (l.k - 1)))) × (1 ≤ l.k) × (l.k - 1 ≤ l.c.count - 1) × (length l.tokens ≡ length l.initial.tokens) × (length l.text ≡ length l.initial.text)
-
-abbrev pub decreases-loop-k : goal.decreases-loop-k
-decreases-loop-k l = l.c.count - l.k
+invariant-loop-k l = (seen (room_of l.tokens l.text l.out) ≡ seen (emit_all (room_of l.initial.tokens l.initial.text l.initial.out) (texts (clip_at l.lowered l.source l.c) (l.k - 1)))) × (l.k - 1 ≤ l.c.count - 1) × (length l.tokens ≡ length l.initial.tokens) × (length l.text ≡ length l.initial.text)

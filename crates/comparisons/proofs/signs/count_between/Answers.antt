@@ -1,19 +1,16 @@
-use native.Mathlib.Omega.{arith}
-use Prim.Native.Nat.{◌-◌}
-use Rattle.comparisons.proofs.Comparing.{tally_most, below_end, count_turn, count_end}
+-- The bytes of the range that are b, counted.
+use Rattle.std.proofs.Common.{rules}
+use borrow.Author.Tests.{tests}
+use Rattle.comparisons.proofs.Comparing.{count_is}
+use lib.Dec.{eqb}
+use mathlib.Core.Path.{refl, ap, ◌∙◌}
+use Rattle.definition.specs.Lists.{count}
+use Rattle.std.proofs.lemmas.Iterator.{YieldsList-from_slice}
+use Rattle.std.proofs.lemmas.Iterator.Consumers.{YieldsList-from_filter, count_from_yields_List}
 use Rattle.comparisons.proofs.signs.count_between.Goals as goal
 
-pub loop-i-init : goal.loop-i-init
-loop-i-init c = (omega arith, omega arith)
-
-pub bounds-source-i : goal.bounds-source-i
-bounds-source-i c = below_end _ _ _ _ c.least-e.ensures c.loop-i-test.true
-
-pub overflow_add-n : goal.overflow_add-n
-overflow_add-n c = let m = tally_most _ _ _ c.tally-n.ensures in omega arith
-
-pub loop-i-preserved : goal.loop-i-preserved
-loop-i-preserved c = let a = c.args in let m = tally_most _ _ _ c.tally-n.ensures in (count_turn a.source.now c.loop-i.i a.to _ c.least-e.ensures a.b a.from _ c.loop-i.invariant.0 _ c.loop-i-test.true c.tally-n.ensures, omega arith)
-
 pub returns : goal.returns
-returns c = let a = c.args in count_end a.source.now c.loop-i.i a.to _ c.least-e.ensures a.b a.from _ c.loop-i.invariant.0 (omega arith)
+returns c =
+    count_from_yields_List c.filter.result _ c.count.ensures.ran
+    (YieldsList-from_filter _ (eqb c.args.b) (YieldsList-from_slice c.part.result.now (cc)) c.filter.ensures.closure (λ x b q k. search (rules, tests)))
+    ∙ count_is (eqb c.args.b) (eqb c.args.b) (λ x. refl) c.part.result.now ∙ ap (count (eqb c.args.b)) c.part.ensures

@@ -3,4 +3,4 @@ use Rattle.sheet.proofs.Reading.{empty_is}
 use Rattle.sheet.proofs.ranges.none_between.Goals as goal
 
 pub returns : goal.returns
-returns c = empty_is _ _ _ _ c.least.ensures
+returns c = empty_is _ _ _ _ c.min.ensures

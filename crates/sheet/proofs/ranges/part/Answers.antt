@@ -5,13 +5,13 @@ use native.Mathlib.Omega.{arith}
 use Rattle.sheet.proofs.ranges.part.Goals as goal
 
 pub slice_bounds-result-count : goal.slice_bounds-result-count
-slice_bounds-result-count c = omega (arith, c.least-s.ensures, least_le c.args.from c.least-e.result)
+slice_bounds-result-count c = omega (arith, c.min-s.ensures, least_le c.args.from c.min-e.result)
 
 pub slice_bounds-result-start : goal.slice_bounds-result-start
-slice_bounds-result-start c = omega (arith, c.least-s.ensures, least_le c.args.from c.least-e.result)
+slice_bounds-result-start c = omega (arith, c.min-s.ensures, least_le c.args.from c.min-e.result)
 
 pub slice_bounds-result-end : goal.slice_bounds-result-end
-slice_bounds-result-end c = omega (arith, c.least-e.ensures, least_le c.args.to (length c.args.text.now))
+slice_bounds-result-end c = omega (arith, c.min-e.ensures, least_le c.args.to (length c.args.text.now))
 
 pub returns : goal.returns
-returns c = range_is c.args.text.now _ _ _ _ c.least-e.ensures c.least-s.ensures
+returns c = range_is c.args.text.now _ _ _ _ c.min-e.ensures c.min-s.ensures

