@@ -21,26 +21,6 @@ use Rattle.records.proofs.Trees.{tree_lower, tree_past}
 use Rattle.records.proofs.Codes.{by_code}
 use Rattle.marks.specs.Reading.{saved_use, saved_at}
 
--- ---- is an expression a callee_saved_lem register's entry value
-module _ (f : List ℕ) (n m : ℕ) (is : m ≡ size f expressions) where
-  pub saved_past : m ≤ n → false ≡ saved_at f n
-  unfolding saved_at
-  saved_past h = rw (← is, le-ltb n m h)
-
-  module _ (here : n < m) (g : ℕ) (tag : g ≡ expr_word f n 0) where
-    pub saved_other : (g ≡ 2 → ⊥) → false ≡ saved_at f n
-    unfolding saved_at saved_use
-    saved_other h = rw (← is, lt-ltb n m here, ← tag, ne_eqb g 2 h)
-
-    module _ (used : g ≡ 2) (v : ℕ) (ver : v ≡ expr_word f n 2) where
-      pub saved_later : (v ≡ 0 → ⊥) → false ≡ saved_at f n
-      unfolding saved_at saved_use
-      saved_later h = rw (← is, lt-ltb n m here, ← tag, eq-eqb g 2 used, ← ver, ne_eqb v 0 h)
-
-      pub saved_is : (r : ℕ) (b : Bool) → v ≡ 0 → r ≡ expr_word f n 1 → b ≡ callee_saved r → b ≡ saved_at f n
-      unfolding saved_at saved_use
-      saved_is r b h e p = p ∙ rw (← is, lt-ltb n m here, ← tag, eq-eqb g 2 used, ← ver, eq-eqb v 0 h, e)
-
 -- ---- the trees
 module _ (E : Edition) (f : List ℕ) where
   saved_node : (t : List Expr) (n : ℕ) → is_saved (tree E f t n) ≡ saved_use f n
