@@ -3,9 +3,9 @@
 use mathlib.Core.Path.{◌≡◌, refl, sym, ap, ◌∙◌}
 use mathlib.Core.Bool.{Bool, true, false, not, cond, ◌&&◌, ◌||◌}
 use mathlib.Core.List.{List, []}
-use Prim.Native.Nat.{ℕ, ◌≤◌, ◌<◌}
+use Prim.Native.Nat.{ℕ}
 use lib.Dec.{eqb, ltb}
-use borrow.Author.Tests.{ltb-true, ltb-false, eq-eqb, ne_eqb, lt-ltb, le-ltb}
+use borrow.Author.Tests.{ltb-true, ltb-false, eq-eqb, ne_eqb}
 use Rattle.definition.specs.Edition.{Edition, expressions}
 use Rattle.definition.specs.Contents.{size, expr_word}
 use Rattle.definition.specs.Owners.{stmt_kind, stmt_field}
@@ -13,7 +13,6 @@ use Rattle.definition.specs.Ssa.{Expr}
 use Rattle.definition.specs.Ssa.Expr.{Opaque}
 use Rattle.definition.specs.Read.{tree_at, tree, trees, all_trees, kind_at, marked}
 use Rattle.definition.specs.Offsets.{Known, stack_off}
-use Rattle.definition.specs.Registers.{callee_saved}
 use Rattle.definition.specs.Lower.{is_saved, saves}
 use Rattle.definition.specs.Blocks.{is_save}
 use Rattle.definition.proofs.Bools.{by_test}
