@@ -26,19 +26,9 @@ use Rattle.definition.proofs.Bools.{by_test}
 use Rattle.records.specs.Options.{answer_of}
 use Rattle.text.specs.Supplied.{name_index, name_text, text_of}
 use Rattle.text.proofs.Lookups.{name_is, name_part, text_is, told_some, told_none}
-use Rattle.labels.specs.Labels.{block_of}
-use Rattle.labels.proofs.Finding.{block_none}
 use Rattle.room.specs.Room.{Room, emit}
 use Rattle.room.proofs.Laws.{piece_as}
 use Rattle.calls.specs.Spelled.{outside_text, Trimmed, named_or, name_at_hex, index_at_hex, direct_index, direct_text}
-
--- ---- blocks
-pub block_is : (f : List ℕ) (a r : ℕ) → r ≡ block_of f a → (E : Edition) → not (eqb r 0) ≡ among a (order (read E f))
-block_is f a r e E = rw e (ap not (block_none E f a) ∙ twice (among a (order (read E f))))
-  where
-    twice : (b : Bool) → not (not b) ≡ b
-    twice true = refl
-    twice false = refl
 
 -- ---- outside
 module _ (f : List ℕ) (t a : ℕ) (r : Answer ℕ) (look : r ≡ answer_of (name_index f a)) where

@@ -73,13 +73,11 @@ fn join_phis(roots: &mut [u32], f: &[u8], keys: &[u64], numbers: &[u32])
 }
 
 // What place i keeps: x at a value's number, nothing at other places.
+#[tactic(auto, unfolding(crate::specs::Joined::kept))]
 fn keep(keys: &[u64], numbers: &[u32], i: usize, x: u32) -> u32
     ensures { result ≡ kept keys.now numbers.now x i }
 {
-    if get(keys, i) == 0 {
-        return 0;
-    }
-    if get(numbers, i) as usize != i {
+    if get(keys, i) == 0 || get(numbers, i) as usize != i {
         return 0;
     }
     x
@@ -89,9 +87,8 @@ fn keep(keys: &[u64], numbers: &[u32], i: usize, x: u32) -> u32
 fn spare(roots: &mut [u32], keys: &[u64], numbers: &[u32])
     ensures { roots.new ≡ spared keys.now numbers.now roots.old }
 {
-    for i in 0..roots.len() {
-        let x = get(roots, i);
-        roots[i] = keep(keys, numbers, i, x);
+    for (i, root) in roots.iter_mut().enumerate() {
+        *root = keep(keys, numbers, i, *root);
     }
 }
 

@@ -24,8 +24,7 @@ use Rattle.values.proofs.Tables.{table_same, table_zero}
 use Rattle.values.proofs.Placed.{keyed_length}
 use Rattle.later.specs.Search.{later_read, single}
 use Rattle.inline.specs.Placing.{Placed, placed_at, placed_in, all_placed, place_in, place_of, Adds, Told}
-use Rattle.later.specs.declared.Later.{Later}
-use Rattle.later.specs.declared.Later.TheVariants.{At, Nowhere}
+use Rattle.std.specs.Prelude.{Option, Some, None}
 use Rattle.inline.proofs.AtStatement.{target}
 use Rattle.inline.proofs.Telling.{singly, writes, passed_over, read_nowhere, read_later_lem}
 
@@ -67,19 +66,19 @@ module _ (f numbers live phi readers loads places : List ℕ) (told : Told f num
       adds_none f (length numbers) (λ (E : Edition). placed_at E f end i) places
       (λ (E : Edition). passed_over f numbers live phi readers loads told bytes i inside E end (once_is ∙ not-true b h))
 
-  module _ (r : Later) (later : r ≡ later_read f i end (at readers n) (at loads (stmt_field f i 2))) (so : not b ≡ false) where
+  module _ (r : Option ℕ) (later : r ≡ later_read f i end (at readers n) (at loads (stmt_field f i 2))) (so : not b ≡ false) where
     single_is : single f i (at phi (at numbers ((places_of f).stmts + i))) (at live (at numbers ((places_of f).stmts + i))) ≡ true
     single_is = once_is ∙ not-false b so
 
     later_is : r ≡ later_read f i end (at readers (at numbers ((places_of f).stmts + i))) (at loads (stmt_field f i 2))
     later_is = later ∙ ap (λ (m : ℕ). later_read f i end (at readers m) (at loads (stmt_field f i 2))) is
 
-    pub step_nowhere : r ≡ Nowhere → Adds f (length numbers) (λ (E : Edition). placed_at E f end i) places places
+    pub step_nowhere : r ≡ None → Adds f (length numbers) (λ (E : Edition). placed_at E f end i) places places
     step_nowhere h =
         adds_none f (length numbers) (λ (E : Edition). placed_at E f end i) places
         (λ (E : Edition). read_nowhere f numbers live phi readers loads told bytes i inside E end single_is within.0 within.1 r later_is h)
 
-    pub step_placed : (x : ℕ) (u : List ℕ) → r ≡ At x → u ≡ set places n (i + 1) → Adds f (length numbers) (λ (E : Edition). placed_at E f end i) places u
+    pub step_placed : (x : ℕ) (u : List ℕ) → r ≡ Some x → u ≡ set places n (i + 1) → Adds f (length numbers) (λ (E : Edition). placed_at E f end i) places u
     unfolding Adds place_in
     step_placed x u h e E g t =
         let s = singly f numbers live phi readers loads told bytes i inside single_is in

@@ -29,8 +29,7 @@ use Rattle.reads.specs.Counts.{last_reader}
 use Rattle.reads.proofs.ReadAtAll.{bit_not}
 use Rattle.later.specs.Search.{reached, later_read, single}
 use Rattle.inline.specs.Placing.{behind, placed_at, Told}
-use Rattle.later.specs.declared.Later.{Later}
-use Rattle.later.specs.declared.Later.TheVariants.{At, Nowhere}
+use Rattle.std.specs.Prelude.{Option, Some, None}
 use Rattle.later.proofs.Searching.{search_is}
 use Rattle.inline.proofs.AtStatement.{target, source, placing, placed_dead, placed_other, placed_assign}
 use Rattle.inline.proofs.OneReader.{one_reader}
@@ -62,11 +61,11 @@ loads_is E f loads n x e =
     ∙ bit_one (has_load (tree_at (all_trees E f) x))
 
 -- ---- what the search found
-is_at : Later → Bool
-is_at (At x) = true
-is_at Nowhere = false
+is_at : Option ℕ → Bool
+is_at (Some x) = true
+is_at None = false
 
-searched : (b : Bool) (r : Later) (y : ℕ) → r ≡ cond b (At y) Nowhere → b ≡ is_at r
+searched : (b : Bool) (r : Option ℕ) (y : ℕ) → r ≡ cond b (Some y) None → b ≡ is_at r
 unfolding is_at
 searched true r y e = sym (ap is_at e)
 searched false r y e = sym (ap is_at e)
@@ -161,17 +160,17 @@ module _ (f numbers live phi readers loads : List ℕ) (told : Told f numbers li
           placed_assign E f end i s.lives s.assigns
           ∙ ap₂ (λ (a b : Bool). cond (a && b) (placing E f i ∷ []) []) (sym (once_so s.assigns E s.lives) ∙ h) later_so
 
-      module _ (r : Later) (e : r ≡ later_read f i end (at readers number) (at loads (stmt_field f i 2))) where
+      module _ (r : Option ℕ) (e : r ≡ later_read f i end (at readers number) (at loads (stmt_field f i 2))) where
         found : placed_at E f end i ≡ cond (is_at r) (placing E f i ∷ []) []
         unfolding later_read
         found =
             placed_so ∙ ap (λ (b : Bool). cond b (placing E f i ∷ []) [])
             (searched (reached f (at readers number) (eqb (at loads (stmt_field f i 2)) 1) (i + 1) end) r (at readers number - 1) e)
 
-        pub read_nowhere : r ≡ Nowhere → placed_at E f end i ≡ []
+        pub read_nowhere : r ≡ None → placed_at E f end i ≡ []
         unfolding is_at
-        read_nowhere q = found ∙ ap (λ (x : Later). cond (is_at x) (placing E f i ∷ []) []) q
+        read_nowhere q = found ∙ ap (λ (x : Option ℕ). cond (is_at x) (placing E f i ∷ []) []) q
 
-        pub read_later_lem : (x : ℕ) → r ≡ At x → placed_at E f end i ≡ placing E f i ∷ []
+        pub read_later_lem : (x : ℕ) → r ≡ Some x → placed_at E f end i ≡ placing E f i ∷ []
         unfolding is_at
-        read_later_lem x q = found ∙ ap (λ (x : Later). cond (is_at x) (placing E f i ∷ []) []) q
+        read_later_lem x q = found ∙ ap (λ (x : Option ℕ). cond (is_at x) (placing E f i ∷ []) []) q

@@ -11,7 +11,7 @@ ghost use Rattle.later.specs.Search.{single};
 ghost use Rattle.inline.specs.Placing.{placed_at, place_of, Adds, Told};
 
 use defined::value::RSP;
-use later::{Later, later_read};
+use later::later_read;
 use places::places_of;
 use records::contents::{BLOCKS, size_of};
 use records::owners::{ASSIGN, block_stmts, is_dead, stmt_field, stmt_kind};
@@ -26,22 +26,15 @@ fn number_of(f: &[u8], numbers: &[u32], i: u32) -> usize
 }
 
 // Whether statement i is a live Assign to another register than RSP, of value n, which no phi reads and live statements read once.
+#[tactic(auto, unfolding(later::specs::Search::single))]
 fn read_once(f: &[u8], live: &[u32], phi: &[u32], i: u32, n: usize) -> bool
     ensures { result ≡ single f.now i (at phi.now n) (at live.now n) }
 {
-    if is_dead(f, i) {
-        return false;
-    }
-    if stmt_kind(f, i) != ASSIGN {
-        return false;
-    }
-    if stmt_field(f, i, 0) == RSP {
-        return false;
-    }
-    if get(phi, n) != 0 {
-        return false;
-    }
-    get(live, n) == 1
+    !is_dead(f, i)
+        && stmt_kind(f, i) == ASSIGN
+        && stmt_field(f, i, 0) != RSP
+        && get(phi, n) == 0
+        && get(live, n) == 1
 }
 
 // Statement i, in a block that ends before statement `end`. A value without exactly one later read in its block is passed over at once.
@@ -64,7 +57,7 @@ fn place(
     if !read_once(f, live, phi, i, n) {
         return;
     }
-    let Later::At(_) = later_read(f, readers, loads, i, end, n) else {
+    let Some(_) = later_read(f, readers, loads, i, end, n) else {
         return;
     };
     put(places, n, i + 1);

@@ -1,15 +1,16 @@
 -- Which statements change memory, and whether one of a run does: what each return comes to, over plain lists and numbers.
-use mathlib.Core.Path.{◌≡◌, sym, ◌∙◌}
-use mathlib.Core.Bool.{Bool, true, false, not, ◌&&◌, ◌||◌}
+use mathlib.Core.Path.{◌≡◌, refl, ap, sym, ◌∙◌}
+use mathlib.Core.Bool.{Bool, true, false, not, ◌||◌}
 use mathlib.Core.List.{List}
-use Prim.Native.Nat.{ℕ, suc, ◌+◌, ◌-◌, ◌≤◌, ◌<◌}
+use Prim.Native.Nat.{ℕ, zero, suc, ◌+◌, ◌≤◌}
 use native.Mathlib.Decide.{ℕ_discrete}
 use native.Mathlib.Omega.{arith}
 use lib.Dec.{eqb}
-use borrow.Author.Tests.{eq-eqb, ne_eqb}
+use borrow.Author.Tests.{ne_eqb}
+use Rattle.std.specs.List.{range_with_len, list_any}
 use Rattle.definition.specs.Lists.{any, range}
 use Rattle.definition.specs.Owners.{stmt_kind}
-use Rattle.later.specs.Search.{changes, changed}
+use Rattle.later.specs.Search.{changes}
 
 -- ---- which statements change memory, by the kind k that was read
 module _ (f : List ℕ) (i k : ℕ) (kind : k ≡ stmt_kind f i) where
@@ -34,22 +35,8 @@ module _ (f : List ℕ) (i k : ℕ) (kind : k ≡ stmt_kind f i) where
       let r : k ≡ 6 → ⊥ = (λ e. b (omega arith) (omega arith)) in
       rw (← kind, ne_eqb k 1 a, ne_eqb k 4 p, ne_eqb k 5 q, ne_eqb k 6 r)
 
--- ---- the loop over the statements between
-module _ (f : List ℕ) (to i : ℕ) (b : Bool) (says : b ≡ changes f i) where
-  pub between_hit : i < to → b ≡ true → true ≡ changed f i (to - i)
-  unfolding changed any range
-  between_hit h e = let n : to - i ≡ suc (to - (i + 1)) = omega arith in rw (n, ← says, e)
-
-  pub between_on : i < to → b ≡ false → changed f i (to - i) ≡ changed f (i + 1) (to - (i + 1))
-  unfolding changed any range
-  between_on h e = let n : to - i ≡ suc (to - (i + 1)) = omega arith in rw (n, ← says, e)
-
-pub between_none : (f : List ℕ) (to i : ℕ) → to ≤ i → false ≡ changed f i (to - i)
-unfolding changed any range
-between_none f to i h = let n : to - i ≡ 0 = omega arith in rw n
-
-pub loads_not : (loads : ℕ) (b : Bool) → (loads ≡ 1 → ⊥) → false ≡ (eqb loads 1 && b)
-loads_not loads b h = rw (ne_eqb loads 1 h)
-
-pub loads_so : (loads : ℕ) (a b : Bool) → loads ≡ 1 → a ≡ b → a ≡ (eqb loads 1 && b)
-loads_so loads a b h e = rw (eq-eqb loads 1 h) e
+-- ---- a chain `(a..b).any(..)` over the statements between
+pub any_listed : (p : ℕ → Bool) (a n : ℕ) → list_any p (range_with_len a n) ≡ any p (range a n)
+unfolding any range
+any_listed p a zero = refl
+any_listed p a (suc n) = ap (λ (b : Bool). p a || b) (any_listed p (a + 1) n)

@@ -18,8 +18,7 @@ use Rattle.definition.specs.Values.{Value, within}
 use Rattle.definition.specs.Ssa.{Expr, Kind, uses}
 use Rattle.definition.specs.Read.{kind_at, marked, stmt_at}
 use Rattle.definition.specs.Inline.{clobbers, read_later}
-use Rattle.later.specs.Search.{changes, changed, reached, later_read}
-use Rattle.later.specs.declared.Later.TheVariants.{At, Nowhere}
+use Rattle.later.specs.Search.{changes, changed, reached}
 
 -- ---- which kinds change memory
 changes_is : (E : Edition) (f : List ℕ) (t : List Expr) (i : ℕ) → clobbers (kind_at E f t i) ≡ changes f i
@@ -97,22 +96,3 @@ module _ (E : Edition) (f : List ℕ) (t : List Expr) (v : Value) (r : ℕ)
   search_is loads (suc n) a h =
       let q : a + suc n ≡ a + 1 + n = omega arith in
       rw (one a (omega arith), changes_is E f t a, search_is loads n (a + 1) (omega arith), q) (search_turn f r loads a (a + 1 + n) (omega arith))
-
--- ---- what each return of the code's search comes to, r being the reader that was read and l the load bit
-module _ (f : List ℕ) (i end reader loads r : ℕ) (is : r ≡ reader) where
-  pub nowhere_before : r ≤ i + 1 → Nowhere ≡ later_read f i end reader loads
-  unfolding later_read reached
-  nowhere_before h = rw (← is, le-ltb (i + 1) r h)
-
-  pub nowhere_past : end < r → Nowhere ≡ later_read f i end reader loads
-  unfolding later_read reached
-  nowhere_past h = rw (← is, lt-leb r end h, and-false (ltb (i + 1) r))
-
-  module _ (l : ℕ) (b : Bool) (bit : l ≡ loads) (says : b ≡ (eqb l 1 && changed f (i + 1) (r - 1 - (i + 1)))) where
-    pub nowhere_changed : b ≡ true → Nowhere ≡ later_read f i end reader loads
-    unfolding later_read reached
-    nowhere_changed h = rw (← is, ← bit, ← says, h, and-false (ltb (i + 1) r && leb r end))
-
-    pub at_reader : i + 1 < r → r ≤ end → b ≡ false → At (r - 1) ≡ later_read f i end reader loads
-    unfolding later_read reached
-    at_reader h k q = rw (← is, ← bit, ← says, q, lt-ltb (i + 1) r h, le-leb r end k)

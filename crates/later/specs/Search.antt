@@ -1,12 +1,10 @@
 -- The search for the one later read of a value, by the numbers of statements.
-use Rattle.std.specs.Prelude.{Bool, not, cond, ◌&&◌, ◌||◌, List, ℕ, ◌+◌, ◌-◌, eqb, ltb, leb}
+use Rattle.std.specs.Prelude.{Option, Some, None, Bool, not, cond, ◌&&◌, ◌||◌, List, ℕ, ◌+◌, ◌-◌, eqb, ltb, leb}
 use Rattle.definition.specs.Codes.{k_assign, k_branch, k_flags, k_return}
 use Rattle.definition.specs.Lists.{any, range}
 use Rattle.definition.specs.Owners.{stmt_kind, stmt_field}
 use Rattle.definition.specs.Values.{RSP}
 use Rattle.definition.specs.Read.{marked}
-use Rattle.later.specs.declared.Later.{Later}
-use Rattle.later.specs.declared.Later.TheVariants.{At, Nowhere}
 
 -- a statement that may change memory, dead or live: a Store, a Call or an Other
 unfoldable pub changes : List ℕ → ℕ → Bool
@@ -23,8 +21,8 @@ unfoldable pub reached : List ℕ → ℕ → Bool → ℕ → ℕ → Bool
 reached f reader loads from end = ltb from reader && leb reader end && not (loads && changed f from (reader - 1 - from))
 
 -- the one later read of what statement i defines, in a block that ends before statement `end`
-unfoldable pub later_read : List ℕ → ℕ → ℕ → ℕ → ℕ → Later
-later_read f i end reader loads = cond (reached f reader (eqb loads 1) (i + 1) end) (At (reader - 1)) Nowhere
+unfoldable pub later_read : List ℕ → ℕ → ℕ → ℕ → ℕ → Option ℕ
+later_read f i end reader loads = cond (reached f reader (eqb loads 1) (i + 1) end) (Some (reader - 1)) None
 
 -- statement i is a live Assign to another register than RSP, whose value p phis and n live statements read, none and one
 unfoldable pub single : List ℕ → ℕ → ℕ → ℕ → Bool

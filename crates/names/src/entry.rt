@@ -20,14 +20,8 @@ use slices::get;
 fn passed_over(f: &[u8], i: u32) -> bool
     ensures { result ≡ (marked f.now i 1 || (eqb (stmt_kind f.now i) k_call || eqb (stmt_kind f.now i) k_branch)) }
 {
-    if is_dead(f, i) {
-        return true;
-    }
     let k = stmt_kind(f, i);
-    if k == CALL {
-        return true;
-    }
-    k == BRANCH
+    is_dead(f, i) || k == CALL || k == BRANCH
 }
 
 // What statement i really reads.

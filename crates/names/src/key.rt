@@ -13,10 +13,7 @@ const LOCALS: u32 = 2147483648;
 fn is_own(ver: u32, r: u32, n: u32) -> bool
     ensures { result ≡ (eqb ver 0 && eqb r n) }
 {
-    if ver != 0 {
-        return false;
-    }
-    r == n
+    ver == 0 && r == n
 }
 
 // Value n and its class r get the code c.

@@ -136,11 +136,9 @@ pub fn phi_reads(tab: &mut [u32], f: &[u8], numbers: &[u32])
 }
 
 // Whether a live statement or a phi reads value m.
+#[tactic(auto, unfolding(crate::specs::Counts::read_by))]
 pub fn is_read(live: &[u32], phi: &[u32], m: usize) -> bool
     ensures { result ≡ read_by live.now phi.now m }
 {
-    if get(live, m) != 0 {
-        return true;
-    }
-    get(phi, m) != 0
+    get(live, m) != 0 || get(phi, m) != 0
 }

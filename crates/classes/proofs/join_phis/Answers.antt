@@ -1,6 +1,5 @@
 use native.Mathlib.Omega.{arith}
 use mathlib.Core.Path.{refl, sym, subst, ◌∙◌}
-use Prim.Native.Nat.{◌-◌}
 use Rattle.classes.specs.Given.{Given}
 use Rattle.classes.proofs.Turns.{phis_start, phis_turn, phis_end, stand_start, stand_turn, phi_fits, inputs_fit}
 use Rattle.classes.proofs.join_phis.Goals as goal

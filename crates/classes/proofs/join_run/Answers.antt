@@ -1,6 +1,5 @@
 use native.Mathlib.Omega.{arith}
 use mathlib.Core.Path.{refl, sym, ◌∙◌}
-use Prim.Native.Nat.{◌-◌}
 use Rattle.classes.proofs.Turns.{run_start, run_turn, run_end}
 use Rattle.classes.proofs.join_run.Goals as goal
 

@@ -11,4 +11,4 @@ pub returns-in_default : goal.returns-in_default
 returns-in_default c = step_nowhere _ _ _ _ _ _ _ c.requires.told c.type_inv.f _ _ _ c.requires.i_lt_end c.number_of-n.ensures _ c.read_once.ensures _ c.later_read.ensures (ap not c.if-not-read_once.false) (cc)
 
 pub returns : goal.returns
-returns c = step_placed _ _ _ _ _ _ _ c.requires.told c.type_inv.f _ _ _ c.requires.i_lt_end c.number_of-n.ensures _ c.read_once.ensures _ c.later_read.ensures (ap not c.if-not-read_once.false) _ _ c.in-At.is c.put.ensures
+returns c = step_placed _ _ _ _ _ _ _ c.requires.told c.type_inv.f _ _ _ c.requires.i_lt_end c.number_of-n.ensures _ c.read_once.ensures _ c.later_read.ensures (ap not c.if-not-read_once.false) _ _ c.in-Some.is c.put.ensures

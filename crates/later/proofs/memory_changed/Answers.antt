@@ -1,17 +1,14 @@
-use mathlib.Core.Path.{refl, sym, ◌∙◌}
-use Prim.Native.Nat.{◌-◌}
-use native.Mathlib.Omega.{arith}
-use Rattle.later.proofs.Changing.{between_hit, between_on, between_none}
+-- The chain asks of each statement between whether it changes memory, as the definition does.
+use Rattle.std.proofs.Common.{◌-◌, ◌∙◌, refl, rules}
+use borrow.Author.Tests.{tests}
+use Rattle.std.proofs.lemmas.Iterator.{YieldsList-from_range}
+use Rattle.std.proofs.lemmas.Iterator.Search.{any_from_yields_List}
+use Rattle.later.specs.Search.{changes, changed}
+use Rattle.later.proofs.Changing.{any_listed}
 use Rattle.later.proofs.memory_changed.Goals as goal
 
-pub loop-i-init : goal.loop-i-init
-loop-i-init c = (refl, c.requires)
-
-pub returns-then-changes_memory : goal.returns-then-changes_memory
-returns-then-changes_memory c = between_hit _ _ _ _ c.changes_memory.ensures c.loop-i-test.true c.if-changes_memory.true ∙ sym c.loop-i.invariant.0
-
-pub loop-i-preserved : goal.loop-i-preserved
-loop-i-preserved c = (c.loop-i.invariant.0 ∙ between_on _ _ _ _ c.changes_memory.ensures c.loop-i-test.true c.if-changes_memory.false, omega arith)
-
 pub returns : goal.returns
-returns c = between_none _ _ _ c.loop-i-test.false ∙ sym c.loop-i.invariant.0
+unfolding changed
+returns c =
+    any_from_yields_List (changes c.args.f.now) _ _ _ c.any.ensures.ran (YieldsList-from_range c.args.from c.args.to (c.args.to - c.args.from) (cc) refl) (λ x b q k. search (rules, tests))
+    ∙ any_listed (changes c.args.f.now) c.args.from (c.args.to - c.args.from)

@@ -2,7 +2,6 @@ use Rattle.reads.proofs.Live.{live_done}
 use Rattle.reads.proofs.Visits.{exprs_low, live_start, live_turn, live_end}
 use mathlib.Core.Path.{refl, ap, ◌∙◌}
 use Rattle.places.specs.declared.Places.{Places}
-use Prim.Native.Nat.{◌-◌}
 use native.Mathlib.Omega.{arith}
 use Rattle.reads.proofs.live_reads.Goals as goal
 

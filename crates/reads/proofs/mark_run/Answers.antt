@@ -1,5 +1,4 @@
 use Rattle.reads.proofs.Visits.{place_is, run_turn, run_end}
-use Prim.Native.Nat.{◌-◌}
 use mathlib.Core.Path.{refl, ◌∙◌}
 use Rattle.reads.proofs.mark_run.Goals as goal
 

@@ -1,7 +1,6 @@
 -- Putting x at the nodes from j to b gives at every turn what putting it from a on gives; at the end no node is left.
 use Rattle.reads.specs.Counts.{placed, visit, slots, between}
 use lib.ListN.{length}
-use Prim.Native.Nat.{◌-◌}
 use mathlib.Core.Path.{◌≡◌}
 use Rattle.reads.proofs.mark_run.Given as goal
 

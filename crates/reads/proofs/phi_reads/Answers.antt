@@ -1,9 +1,7 @@
 use Rattle.reads.proofs.Phis.{phi_done}
 use Rattle.reads.proofs.Visits.{place_is, inputs_low, row_turn, row_end}
-use Rattle.definition.specs.Edition.{inputs}
 use mathlib.Core.Path.{refl, ap, ◌∙◌}
 use Rattle.places.specs.declared.Places.{Places}
-use Prim.Native.Nat.{◌-◌}
 use native.Mathlib.Omega.{arith}
 use Rattle.reads.proofs.phi_reads.Goals as goal
 

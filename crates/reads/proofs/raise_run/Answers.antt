@@ -1,5 +1,4 @@
 use Rattle.reads.proofs.Visits.{run_turn, run_end}
-use Prim.Native.Nat.{◌-◌}
 use mathlib.Core.Path.{refl, ◌∙◌}
 use Rattle.reads.proofs.raise_run.Goals as goal
 

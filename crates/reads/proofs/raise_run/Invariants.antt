@@ -1,7 +1,6 @@
 -- Raising the table at the nodes from j to b gives at every turn what raising it from a on gives; at the end no node is left.
 use Rattle.reads.specs.Counts.{raised, visit, slots, between}
 use lib.ListN.{length}
-use Prim.Native.Nat.{◌-◌}
 use mathlib.Core.Path.{◌≡◌}
 use Rattle.reads.proofs.raise_run.Given as goal
 

@@ -2,7 +2,6 @@ use Rattle.reads.proofs.LastReader.{readers_start, readers_turn, readers_end}
 use Rattle.reads.proofs.Visits.{exprs_low}
 use mathlib.Core.Path.{refl, ap, ◌∙◌}
 use Rattle.places.specs.declared.Places.{Places}
-use Prim.Native.Nat.{◌-◌}
 use native.Mathlib.Omega.{arith}
 use Rattle.reads.proofs.readers.Goals as goal
 

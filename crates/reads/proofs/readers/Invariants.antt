@@ -6,7 +6,7 @@ use mathlib.Core.Path.{◌≡◌}
 use Rattle.places.specs.Keys.{places_of}
 use Rattle.definition.specs.Contents.{size}
 use lib.ListN.{length}
-use Prim.Native.Nat.{◌-◌, ◌≤◌}
+use Prim.Native.Nat.{◌≤◌}
 use Rattle.reads.proofs.readers.Given as goal
 
 abbrev pub invariant-loop-i : goal.invariant-loop-i

@@ -2,7 +2,6 @@ use Rattle.uses.proofs.Loading.{loaded, load_turn, load_end}
 use Rattle.uses.proofs.Filling.{padded_none}
 use Rattle.uses.specs.Loads.{loads_below}
 use lib.ListN.{length-set}
-use Prim.Native.Nat.{◌-◌}
 use mathlib.Core.Path.{refl, ◌∙◌}
 use native.Mathlib.Omega.{arith}
 use Rattle.uses.proofs.loads.loads.Goals as goal

@@ -3,7 +3,7 @@ use Rattle.uses.proofs.Loading.{loaded}
 use Rattle.definition.specs.Contents.{size}
 use Rattle.definition.specs.Edition.{expressions}
 use lib.ListN.{length}
-use Prim.Native.Nat.{◌-◌, ◌≤◌}
+use Prim.Native.Nat.{◌≤◌}
 use mathlib.Core.Path.{◌≡◌}
 use Rattle.uses.proofs.loads.loads.Given as goal
 

@@ -3,7 +3,6 @@ use Rattle.uses.proofs.Filling.{padded_none}
 use Rattle.definition.specs.Lists.{range}
 use Rattle.records.proofs.Items.{first_start, first_turn, items_few, items_fit, exprs_fit}
 use lib.ListN.{length-set}
-use Prim.Native.Nat.{◌-◌}
 use mathlib.Core.Path.{refl, ◌∙◌}
 use native.Mathlib.Omega.{arith}
 use Rattle.uses.proofs.order.order.Goals as goal

@@ -5,7 +5,7 @@ use Rattle.definition.specs.Owners.{first_item}
 use Rattle.definition.specs.Contents.{size}
 use Rattle.definition.specs.Edition.{statements}
 use lib.ListN.{length}
-use Prim.Native.Nat.{◌-◌, ◌≤◌}
+use Prim.Native.Nat.{◌≤◌}
 use mathlib.Core.Path.{◌≡◌}
 use Rattle.uses.proofs.order.order.Given as goal
 

@@ -1,5 +1,4 @@
 use Rattle.uses.proofs.Orders.{stmt_start, stmt_turn, stmt_end}
-use Prim.Native.Nat.{◌-◌}
 use mathlib.Core.Path.{refl, ◌∙◌}
 use native.Mathlib.Omega.{arith}
 use Rattle.uses.proofs.order.write_stmt.Goals as goal
