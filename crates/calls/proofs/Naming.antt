@@ -23,22 +23,12 @@ use Rattle.text.specs.declared.names.Found.{Found}
 use Rattle.text.specs.declared.names.Found.TheVariants.{At, Nothing}
 use Rattle.text.specs.Supplied.{found, name_index, name_text, text_of}
 use Rattle.text.proofs.Lookups.{name_is, name_part, text_is, found_is}
-use Rattle.labels.specs.Labels.{block_of}
-use Rattle.labels.proofs.Finding.{block_none}
 use Rattle.room.specs.Room.{Room, emit}
 use Rattle.room.proofs.Laws.{piece_as}
 use Rattle.calls.specs.declared.hex.Hex.{Hex}
 use Rattle.calls.specs.declared.hex.Hex.TheVariants.{Value, None}
 use Rattle.calls.specs.Spelled.{outside_text, Trimmed, hexed, name_at_hex, index_at_hex, direct_index, direct_text}
 use Rattle.calls.proofs.Digits.{hexed_is}
-
--- ---- blocks
-pub block_is : (f : List ℕ) (a r : ℕ) → r ≡ block_of f a → (E : Edition) → not (eqb r 0) ≡ among a (order (read E f))
-block_is f a r e E = rw e (ap not (block_none E f a) ∙ twice (among a (order (read E f))))
-  where
-    twice : (b : Bool) → not (not b) ≡ b
-    twice true = refl
-    twice false = refl
 
 -- ---- outside
 module _ (f : List ℕ) (t a : ℕ) (r : Found) (look : r ≡ found (name_index f a)) where

@@ -25,7 +25,7 @@ use text::names::{Found, name_for};
 pub fn is_block(f: &[u8], a: u64) -> bool
     ensures { (E : Edition) → result ≡ among a (order (read E f.now)) }
 {
-    block_of(f, a) != 0
+    block_of(f, a).is_some()
 }
 
 // Whether name i, whose text is in section t, begins with w.

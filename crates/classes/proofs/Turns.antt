@@ -7,7 +7,6 @@ use Prim.Native.Nat.{ℕ, suc, ◌+◌, ◌-◌, ◌≤◌, ◌<◌}
 use native.Mathlib.Omega.{arith}
 use lib.Dec.{eqb}
 use lib.ListN.{length, set}
-use borrow.Author.Tests.{eq-eqb, ne_eqb}
 use Rattle.definition.specs.Lists.{at}
 use Rattle.definition.specs.Edition.{phis}
 use Rattle.definition.specs.Contents.{size, phi_word}
@@ -28,21 +27,7 @@ use Rattle.unions.specs.Roots.{join}
 use Rattle.classes.specs.Joined.{join_run, join_phi, join_phis, kept, spared}
 use Rattle.unions.proofs.Labels.{fill_end}
 
--- ---- what a place keeps
-module _ (ks ns : List ℕ) (x i k : ℕ) (key : k ≡ at ks i) where
-  pub kept_none : k ≡ 0 → 0 ≡ kept ks ns x i
-  unfolding kept
-  kept_none e = rw (← key, eq-eqb k 0 e)
-
-  module _ (n : ℕ) (named : k ≡ 0 → ⊥) (number : n ≡ at ns i) where
-    pub kept_other : (n ≡ i → ⊥) → 0 ≡ kept ks ns x i
-    unfolding kept
-    kept_other d = rw (← key, ne_eqb k 0 named, ← number, ne_eqb n i d)
-
-    pub kept_here : n ≡ i → x ≡ kept ks ns x i
-    unfolding kept
-    kept_here e = rw (← key, ne_eqb k 0 named, ← number, eq-eqb n i e)
-
+-- ---- what places keep
 -- what is done, and what is as it was
 pub record Sparing (ks ns l₀ l : List ℕ) (i : ℕ) : Type 0 where
   pub done : (j : ℕ) → j < i → at l j ≡ kept ks ns (at l₀ j) j

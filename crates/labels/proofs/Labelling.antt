@@ -3,11 +3,12 @@
 use mathlib.Core.Path.{◌≡◌, refl, sym, ap, ap₂, ◌∙◌}
 use mathlib.Core.Bool.{Bool, true, false, not, cond, ◌||◌}
 use mathlib.Core.List.{List, [], ◌∷◌, ◌++◌, map}
-use Prim.Native.Nat.{ℕ, zero, suc, ◌+◌, ◌-◌, ◌≤◌, ◌<◌}
+use Prim.Native.Nat.{ℕ, zero, suc, ◌+◌, ◌-◌, ◌≤◌}
 use native.Mathlib.Omega.{arith}
 use lib.Dec.{eqb}
 use lib.ListN.{length, set, replicate}
-use borrow.Author.Tests.{eq-eqb, ne_eqb, lt-ltb, le-ltb, eqb-true, not-true}
+use borrow.Author.Tests.{eq-eqb, ne_eqb, eqb-true, not-true}
+use Rattle.std.specs.Prelude.{Option as Answer, Some, None}
 use Rattle.definition.specs.Edition.{blocks}
 use Rattle.definition.specs.Lists.{any, among, distinct, range}
 use Rattle.definition.specs.Contents.{size, block_word, block_long, stmt_long}
@@ -17,18 +18,8 @@ use Rattle.definition.specs.Lookup.{option_list, is_next, unless_next}
 use Rattle.definition.proofs.Runs.{run_then}
 use Rattle.definition.proofs.Bools.{by_test, both_true, both_false, eqb_swap}
 use Rattle.reads.specs.Counts.{visit}
-use Rattle.labels.specs.Labels.{found_from, start_at, block_of, labelled, next_at, taken_at, fall_at, edges_at, target_at}
+use Rattle.labels.specs.Labels.{found_from, start_at, block_of, with_mark, labelled, next_at, taken_at, fall_at, edges_at, target_at}
 use Rattle.labels.proofs.Finding.{found_high}
-
--- ---- the block behind b
-module _ (f : List ℕ) (b n a : ℕ) (is : n ≡ size f blocks) where
-  pub next_there : (x : ℕ) → b + 1 < n → x ≡ block_long f (b + 1) 0 → eqb a x ≡ is_next (next_at f b) a
-  unfolding next_at is_next start_at
-  next_there x h e = rw (← is, lt-ltb (b + 1) n h, e)
-
-  pub next_none : n ≤ b + 1 → false ≡ is_next (next_at f b) a
-  unfolding next_at is_next
-  next_none h = rw (← is, le-ltb (b + 1) n h)
 
 -- ---- edges and targets
 module _ (f t : List ℕ) where
@@ -72,6 +63,11 @@ module _ (f t : List ℕ) where
     target_there w a u h e n p q = q ∙ rw (← kind, eq-eqb k 4 h, ← e, eq-eqb w 1 n, p)
 
 -- ---- the table
+-- the block found is marked in a table from block b on
+abbrev mark_behind : ℕ → List ℕ → Answer ℕ → List ℕ
+mark_behind b t None = t
+mark_behind b t (Some x) = set t (x - b) 1
+
 module _ (g : ℕ → ℕ) (a : ℕ) (h : ℕ → ℕ) (z : List ℕ) where
   -- a does not begin here
   unmarked : (b m : ℕ) → among a (map g (range b m)) ≡ false → map (λ i. cond (eqb a (g i)) 1 (h i)) (range b m) ≡ map h (range b m)
@@ -83,8 +79,7 @@ module _ (g : ℕ → ℕ) (a : ℕ) (h : ℕ → ℕ) (z : List ℕ) where
 
   -- the first of m blocks from b on that begins at a
   marked_run : (b m : ℕ) → distinct (map g (range b m)) ≡ true
-      → cond (eqb (found_from g a b m) 0) (map h (range b m) ++ z) (set (map h (range b m) ++ z) (found_from g a b m - 1 - b) 1)
-      ≡ map (λ i. cond (eqb a (g i)) 1 (h i)) (range b m) ++ z
+      → mark_behind b (map h (range b m) ++ z) (found_from g a b m) ≡ map (λ i. cond (eqb a (g i)) 1 (h i)) (range b m) ++ z
   unfolding found_from range distinct
   marked_run b zero d = refl
   marked_run b (suc m) d =
@@ -92,14 +87,15 @@ module _ (g : ℕ → ℕ) (a : ℕ) (h : ℕ → ℕ) (z : List ℕ) where
       by_test (eqb (g b) a)
       (λ t.
       let q : among a (map g (range (b + 1) m)) ≡ false = ap (λ (x : ℕ). among x (map g (range (b + 1) m))) (sym (eqb-true (g b) a t)) ∙ not-true (among (g b) (map g (range (b + 1) m))) p.0 in
-      let k : b + 1 - 1 - b ≡ 0 = omega arith in
-      rw (t, eqb_swap a (g b), t, ne_eqb (b + 1) 0 (λ e. omega arith), k) (ap (λ (l : List ℕ). 1 ∷ (l ++ z)) (sym (unmarked (b + 1) m q))))
+      let k : b - b ≡ 0 = omega arith in
+      rw (t, eqb_swap a (g b), t, k) (ap (λ (l : List ℕ). 1 ∷ (l ++ z)) (sym (unmarked (b + 1) m q))))
       (λ t. rw (t, eqb_swap a (g b), t) (rest (found_from g a (b + 1) m) (found_high g a (b + 1) m) (map h (range (b + 1) m) ++ z) (map (λ i. cond (eqb a (g i)) 1 (h i)) (range (b + 1) m) ++ z) (marked_run (b + 1) m p.1)))
     where
-      rest : (x : ℕ) → (eqb x 0 ≡ false → b + 1 < x) → (l r : List ℕ) → cond (eqb x 0) l (set l (x - 1 - (b + 1)) 1) ≡ r → cond (eqb x 0) (h b ∷ l) (set (h b ∷ l) (x - 1 - b) 1) ≡ h b ∷ r
-      rest x high l r e =
-          by_test (eqb x 0) (λ t. rw t (ap (λ (y : List ℕ). h b ∷ y) (rw t at e)))
-          (λ t. let k : x - 1 - b ≡ suc (x - 1 - (b + 1)) = omega (arith, high t) in rw (t, k) (ap (λ (y : List ℕ). h b ∷ y) (rw t at e)))
+      rest : (r : Answer ℕ) → ((x : ℕ) → r ≡ Some x → b + 1 ≤ x) → (l u : List ℕ) → mark_behind (b + 1) l r ≡ u → mark_behind b (h b ∷ l) r ≡ h b ∷ u
+      rest None high l u e = ap (λ (y : List ℕ). h b ∷ y) e
+      rest (Some x) high l u e =
+          let k : x - b ≡ suc (x - (b + 1)) = omega (arith, high x refl) in
+          rw k (ap (λ (y : List ℕ). h b ∷ y) e)
 
 pub map_same : (g h : ℕ → ℕ) → ((i : ℕ) → g i ≡ h i) → (xs : List ℕ) → map g xs ≡ map h xs
 map_same g h e [] = refl
@@ -107,12 +103,13 @@ map_same g h e (x ∷ xs) = ap₂ (λ (a : ℕ) (l : List ℕ). a ∷ l) (e x) (
 
 module _ (f : List ℕ) (once : distinct (starts f) ≡ true) (z : List ℕ) where
   one_marked : (a : ℕ) (h : ℕ → ℕ) → labelled f (map h (range 0 (size f blocks)) ++ z) a ≡ map (λ i. cond (eqb a (start_at f i)) 1 (h i)) (range 0 (size f blocks)) ++ z
-  unfolding labelled block_of starts start_at
+  unfolding labelled with_mark block_of starts start_at
   one_marked a h =
-      let x = found_from (start_at f) a 0 (size f blocks) in
-      let t = map h (range 0 (size f blocks)) ++ z in
-      let k : x - 1 ≡ x - 1 - 0 = omega arith in
-      ap (λ (j : ℕ). cond (eqb x 0) t (set t j 1)) k ∙ marked_run (start_at f) a h z 0 (size f blocks) once
+      whole (map h (range 0 (size f blocks)) ++ z) (found_from (start_at f) a 0 (size f blocks)) ∙ marked_run (start_at f) a h z 0 (size f blocks) once
+    where
+      whole : (t : List ℕ) (r : Answer ℕ) → with_mark t r ≡ mark_behind 0 t r
+      whole t None = refl
+      whole t (Some x) = let k : x ≡ x - 0 = omega arith in ap (λ (j : ℕ). set t j 1) k
 
   all_marked : (as' : List ℕ) (h : ℕ → ℕ) → visit (labelled f) (map h (range 0 (size f blocks)) ++ z) as'
       ≡ map (λ i. cond (among (start_at f i) as') 1 (h i)) (range 0 (size f blocks)) ++ z

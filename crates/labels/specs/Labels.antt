@@ -1,5 +1,5 @@
 -- Which blocks have a label: where blocks and branches go, by the records of the file, each looked up among the blocks' starts.
-use Rattle.std.specs.Prelude.{◌≡◌, cond, List, [], ◌++◌, map, ℕ, zero, suc, ◌+◌, ◌-◌, eqb, ltb, set}
+use Rattle.std.specs.Prelude.{Option as Answer, Some, None, ◌≡◌, cond, List, [], ◌++◌, map, ℕ, zero, suc, ◌+◌, eqb, ltb, set}
 use Rattle.std.proofs.Math.Option.{Option, none, some}
 use Rattle.definition.specs.Codes.{k_branch}
 use Rattle.definition.specs.Edition.{Edition, blocks}
@@ -11,22 +11,26 @@ use Rattle.definition.specs.Read.{when, read}
 use Rattle.definition.specs.Lookup.{option_list, unless_next, jumps_from}
 use Rattle.definition.specs.Listing.{padded}
 
--- 1 more than the first of m numbers from b on at which g has a, 0 where none has it
-unfoldable pub found_from : (ℕ → ℕ) → ℕ → ℕ → ℕ → ℕ
-found_from g a b zero = 0
-found_from g a b (suc m) = cond (eqb (g b) a) (b + 1) (found_from g a (b + 1) m)
+-- the first of m numbers from b on at which g has a, if one has it
+unfoldable pub found_from : (ℕ → ℕ) → ℕ → ℕ → ℕ → Answer ℕ
+found_from g a b zero = None
+found_from g a b (suc m) = cond (eqb (g b) a) (Some b) (found_from g a (b + 1) m)
 
 -- where block i begins
 unfoldable pub start_at : List ℕ → ℕ → ℕ
 start_at f i = block_long f i 0
 
--- 1 more than the number of the first block that begins at a, 0 where none does
-unfoldable pub block_of : List ℕ → ℕ → ℕ
+-- the first block that begins at a, if one does
+unfoldable pub block_of : List ℕ → ℕ → Answer ℕ
 block_of f a = found_from (start_at f) a 0 (size f blocks)
 
 -- that block is marked, if there is one
+unfoldable pub with_mark : List ℕ → Answer ℕ → List ℕ
+with_mark t None = t
+with_mark t (Some b) = set t b 1
+
 unfoldable pub labelled : List ℕ → List ℕ → ℕ → List ℕ
-labelled f t a = cond (eqb (block_of f a) 0) t (set t (block_of f a - 1) 1)
+labelled f t a = with_mark t (block_of f a)
 
 -- the start of the block behind b
 unfoldable pub next_at : List ℕ → ℕ → Option ℕ

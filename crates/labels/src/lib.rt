@@ -15,39 +15,31 @@ use records::contents::{BLOCKS, STATEMENTS, block_long, block_word, size_of, stm
 use records::owners::{BRANCH, stmt_field, stmt_kind};
 use slices::put;
 
-// 1 more than the number of the first block that begins at a, 0 where none does.
-pub fn block_of(f: &[u8], a: u64) -> u32
+// The first block that begins at a, if one does.
+pub fn block_of(f: &[u8], a: u64) -> Option<u32>
     ensures { result ≡ block_of f.now a }
 {
-    let n = size_of(f, BLOCKS);
-    for b in 0..n {
-        if block_long(f, b, 0) == a {
-            return b + 1;
-        }
-    }
-    0
+    (0..size_of(f, BLOCKS)).find(|b| block_long(f, *b, 0) == a)
 }
 
 // The block that begins at a is marked, if there is one.
+#[tactic(auto, unfolding(crate::specs::Labels::labelled, crate::specs::Labels::with_mark))]
 fn label_at(tab: &mut [u32], f: &[u8], a: u64)
     ensures { tab.new ≡ labelled f.now tab.old a }
 {
-    let b = block_of(f, a);
-    if b > 0 {
-        put(tab, b as usize - 1, 1);
+    if let Some(b) = block_of(f, a) {
+        put(tab, b as usize, 1);
     }
 }
 
 // Is a the start of the block behind b.
+#[tactic(auto, unfolding(crate::specs::Labels::next_at, crate::specs::Labels::start_at, definition::specs::Lookup::is_next))]
 pub fn is_next(f: &[u8], b: u32, a: u64) -> bool
     requires { b < size f.now blocks }
     ensures { result ≡ is_next (next_at f.now b) a }
 {
     let c = b + 1;
-    if c < size_of(f, BLOCKS) {
-        return a == block_long(f, c, 0);
-    }
-    false
+    c < size_of(f, BLOCKS) && a == block_long(f, c, 0)
 }
 
 // Where block b goes when its branch is taken.

@@ -16,22 +16,17 @@ use sums::address::stack_off;
 use text::registers::Register;
 
 // Whether expression n is a callee-saved register's entry value.
+#[tactic(auto, unfolding(crate::specs::Reading::saved_at, crate::specs::Reading::saved_use))]
 fn is_saved(f: &[u8], n: u32) -> bool
     ensures { result ≡ saved_at f.now n }
 {
-    if n >= size_of(f, EXPRESSIONS) {
-        return false;
-    }
-    if expr_word(f, n, 0) != USE {
-        return false;
-    }
-    if expr_word(f, n, 2) != 0 {
-        return false;
-    }
     let x = Register {
         number: expr_word(f, n, 1),
     };
-    x.callee_saved()
+    n < size_of(f, EXPRESSIONS)
+        && expr_word(f, n, 0) == USE
+        && expr_word(f, n, 2) == 0
+        && x.callee_saved()
 }
 
 // Whether statement i is a save.

@@ -10,13 +10,6 @@ use Rattle.definition.specs.Values.{value}
 use Rattle.definition.specs.Lists.{at}
 use Rattle.names.specs.Spots.{State, spot, known, state, noted, met, named}
 
--- ---- is a value the root of its own class
-pub own_not : (ver r n : ℕ) → (ver ≡ 0 → ⊥) → false ≡ (eqb ver 0 && eqb r n)
-own_not ver r n h = rw (ne_eqb ver 0 h)
-
-pub own_same : (ver r n : ℕ) → ver ≡ 0 → eqb r n ≡ (eqb ver 0 && eqb r n)
-own_same ver r n h = rw (eq-eqb ver 0 h)
-
 -- ---- a class is met; c is the code that it has
 module _ (names seen : List ℕ) (n r ver next c : ℕ) (has : c ≡ at seen r) where
   -- which leaves S

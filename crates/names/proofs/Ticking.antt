@@ -5,7 +5,6 @@ use mathlib.Core.List.{List, [], ◌∷◌, map}
 use Prim.Native.Nat.{ℕ, ◌+◌, ◌-◌}
 use lib.Dec.{eqb}
 use lib.ListN.{set}
-use borrow.Author.Tests.{eq-eqb, ne_eqb}
 use Rattle.definition.specs.Lists.{range, at}
 use Rattle.definition.specs.Owners.{stmt_kind}
 use Rattle.definition.specs.Read.{marked}
@@ -35,15 +34,3 @@ module _ (ns : List ℕ) where
     pub tick_some : (r : List ℕ) → d ≡ false → r ≡ ticked ns t (use_spots f i) → r ≡ ticked ns t (entry_spots f i)
     unfolding entry_spots
     tick_some r h e = rw (sym is ∙ h) e
-
--- ---- does a statement make no parameter
-module _ (f : List ℕ) (i : ℕ) (d : Bool) (is : d ≡ marked f i 1) where
-  pub over_dead : d ≡ true → true ≡ (marked f i 1 || (eqb (stmt_kind f i) 3 || eqb (stmt_kind f i) 4))
-  over_dead h = rw (sym is ∙ h)
-
-  module _ (live : d ≡ false) (k : ℕ) (kind : k ≡ stmt_kind f i) where
-    pub over_call : k ≡ 3 → true ≡ (marked f i 1 || (eqb (stmt_kind f i) 3 || eqb (stmt_kind f i) 4))
-    over_call h = rw (sym is ∙ live, ← kind, eq-eqb k 3 h)
-
-    pub over_branch : (k ≡ 3 → ⊥) → eqb k 4 ≡ (marked f i 1 || (eqb (stmt_kind f i) 3 || eqb (stmt_kind f i) 4))
-    over_branch h = rw (sym is ∙ live, ← kind, ne_eqb k 3 h)

@@ -11,7 +11,7 @@ use mir.Val.{Fits}
 use borrow.Author.Tests.{eqb-true}
 use Rattle.words.proofs.Laws.{word_small}
 use Rattle.definition.specs.Codes.{k_assign, k_call}
-use Rattle.definition.specs.Edition.{blocks, phis, inputs, statements, stmt_words, lists, item_words}
+use Rattle.definition.specs.Edition.{blocks, phis, statements, stmt_words, lists, item_words}
 use Rattle.definition.specs.Contents.{size, place, phi_word, input_at}
 use Rattle.definition.specs.Owners.{stmt_kind, stmt_field, expr_items, value_items, block_phis, block_stmts, phi_inputs, first_phi, first_stmt, first_input, first_item}
 use Rattle.definition.specs.Shape.{owned}

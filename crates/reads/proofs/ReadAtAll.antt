@@ -5,7 +5,7 @@ use mathlib.Core.List.{List}
 use Prim.Native.Nat.{ℕ}
 use native.Mathlib.Omega.{arith}
 use lib.Dec.{eqb}
-use borrow.Author.Tests.{eq-eqb, ne_eqb}
+use borrow.Author.Tests.{ne_eqb}
 use Rattle.definition.specs.Edition.{Edition}
 use Rattle.definition.specs.Lists.{any, count, at}
 use Rattle.definition.specs.Values.{Value, eqv, within}
@@ -15,16 +15,6 @@ use Rattle.definition.specs.Lower.{is_read}
 use Rattle.definition.proofs.Bools.{by_test}
 use Rattle.definition.proofs.ListLaws.{any_count, any_none}
 use Rattle.reads.specs.Counts.{read_by}
-
--- ---- as the code finds it
-module _ (live phi : List ℕ) (m x : ℕ) (lives : x ≡ at live m) where
-  pub read_live : (x ≡ 0 → ⊥) → true ≡ read_by live phi m
-  unfolding read_by
-  read_live h = rw (← lives, ne_eqb x 0 h)
-
-  pub read_phi : (y : ℕ) → x ≡ 0 → y ≡ at phi m → not (eqb y 0) ≡ read_by live phi m
-  unfolding read_by
-  read_phi y h e = rw (← lives, eq-eqb x 0 h, e)
 
 -- ---- what an entry that is not 0 says
 some_counted : {A : Type 0} (p : A → Bool) (l : List A) → not (eqb (count p l) 0) ≡ any p l

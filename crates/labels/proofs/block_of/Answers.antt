@@ -1,15 +1,13 @@
-use Prim.Native.Nat.{◌-◌}
-use Rattle.labels.proofs.Finding.{find_start, find_here, find_next, find_none}
+-- The chain asks of each block in turn whether it begins at a, as the definition's search does.
+use Rattle.std.proofs.Common.{ℕ, nat_eq, arith, rules}
+use borrow.Author.Tests.{tests}
+use Rattle.std.proofs.lemmas.Iterator.{YieldsList-from_range}
+use Rattle.std.proofs.lemmas.Iterator.Search.{find_from_yields_List}
+use Rattle.definition.specs.Contents.{block_long}
+use Rattle.labels.proofs.Finding.{block_found}
 use Rattle.labels.proofs.block_of.Goals as goal
 
-pub loop-b-init : goal.loop-b-init
-loop-b-init c = find_start _ _ _ c.size_of-n.ensures
-
-pub returns-then-block_long-a : goal.returns-then-block_long-a
-returns-then-block_long-a c = find_here _ _ _ _ c.loop-b.invariant _ c.loop-b-test.true c.block_long.ensures c.if-block_long-a.true
-
-pub loop-b-preserved : goal.loop-b-preserved
-loop-b-preserved c = find_next _ _ _ _ c.loop-b.invariant _ c.loop-b-test.true c.block_long.ensures c.if-block_long-a.false
-
 pub returns : goal.returns
-returns c = find_none _ _ _ _ c.loop-b.invariant c.loop-b-test.false
+returns c =
+    block_found _ _ _ _ c.size_of.ensures
+    (find_from_yields_List (λ (i : ℕ). nat_eq (block_long c.args.f.now i 0) c.args.a) _ _ _ c.find.ensures.ran (YieldsList-from_range 0 c.size_of.result c.size_of.result (cc) (omega arith)) (λ x b q k. search (rules, tests)))

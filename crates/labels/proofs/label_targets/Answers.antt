@@ -1,5 +1,5 @@
 use mathlib.Core.Path.{refl, ◌∙◌}
-use Prim.Native.Nat.{ℕ, ◌-◌}
+use Prim.Native.Nat.{ℕ}
 use Rattle.definition.specs.Lists.{gather, range}
 use Rattle.definition.proofs.Runs.{loop_start, lists_turn, lists_end}
 use Rattle.reads.specs.Counts.{visit}

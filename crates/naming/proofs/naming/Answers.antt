@@ -1,7 +1,6 @@
 -- The parameters' classes are seen first, then the walk over the blocks names the rest: the definition's codes; `seen`, as long still, is cleared.
 use Rattle.naming.proofs.Small.{args_fit}
 use Rattle.naming.proofs.Named.{names_all}
-use Rattle.definition.specs.Edition.{args}
 use lib.ListN.{length, length-replicate}
 use mathlib.Core.Path.{ap, ◌∙◌}
 use Rattle.naming.proofs.naming.Goals as goal

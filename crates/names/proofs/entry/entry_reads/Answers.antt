@@ -3,7 +3,7 @@ use Rattle.definition.proofs.Runs.{loop_start, lists_turn, lists_end}
 use Rattle.names.specs.Spots.{entry_spots, ticked}
 use Rattle.places.specs.declared.Places.{Places}
 use Rattle.definition.specs.Lists.{gather, range}
-use Prim.Native.Nat.{ℕ, ◌-◌}
+use Prim.Native.Nat.{ℕ}
 use mathlib.Core.Path.{refl, ap, ◌∙◌}
 use native.Mathlib.Omega.{arith}
 use Rattle.names.proofs.entry.entry_reads.Goals as goal

@@ -1,6 +1,5 @@
 use native.Mathlib.Omega.{arith}
 use mathlib.Core.Path.{◌≡◌, refl, ◌∙◌}
-use Prim.Native.Nat.{◌-◌}
 use Rattle.definition.specs.Owners.{first_input}
 use Rattle.naming.specs.Walk.{walked, phi_spots}
 use Rattle.definition.proofs.Runs.{lists_turn, lists_end}

@@ -1,7 +1,6 @@
 use Rattle.definition.proofs.Runs.{each_turn, each_end}
 use Rattle.naming.specs.Walk.{walked, run_spot}
 use Rattle.names.specs.Spots.{named}
-use Prim.Native.Nat.{◌-◌}
 use mathlib.Core.Path.{refl, ap, ◌∙◌}
 use Rattle.naming.proofs.runs.name_run.Goals as goal
 

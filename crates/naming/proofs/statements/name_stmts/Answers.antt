@@ -1,6 +1,6 @@
 use native.Mathlib.Omega.{arith}
 use mathlib.Core.Path.{◌≡◌, refl, ap, ◌∙◌}
-use Prim.Native.Nat.{ℕ, ◌-◌}
+use Prim.Native.Nat.{ℕ}
 use Rattle.naming.specs.Walk.{walked, stmt_spots}
 use Rattle.naming.specs.Given.{standing}
 use Rattle.definition.proofs.Runs.{lists_turn, lists_end}

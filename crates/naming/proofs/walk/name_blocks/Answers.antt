@@ -1,7 +1,6 @@
 use Rattle.naming.proofs.Standing.{stands_first, blocks_start}
 use Rattle.definition.proofs.Runs.{lists_turn, lists_end}
 use Rattle.naming.specs.Walk.{walked, block_spots}
-use Prim.Native.Nat.{◌-◌}
 use mathlib.Core.Path.{refl, ◌∙◌}
 use native.Mathlib.Omega.{arith}
 use Rattle.naming.proofs.walk.name_blocks.Goals as goal
