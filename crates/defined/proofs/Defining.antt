@@ -1,8 +1,8 @@
 -- How often a value is defined: the sums over places are the definition's count.
 use mathlib.Core.Path.{◌≡◌, refl, sym, ap, ap₂, ◌∙◌}
-use mathlib.Core.Bool.{Bool, true, false}
+use mathlib.Core.Bool.{Bool, true, false, cond, not, ◌&&◌}
 use mathlib.Core.List.{List, ◌++◌, map}
-use Prim.Native.Nat.{ℕ, ◌+◌}
+use Prim.Native.Nat.{ℕ, ◌+◌, ◌≤◌}
 use native.Mathlib.Omega.{arith}
 use lib.Dec.{eqb}
 use borrow.Author.Tests.{eq-eqb, ne_eqb}
@@ -12,12 +12,12 @@ use Rattle.definition.specs.Contents.{size}
 use Rattle.definition.specs.Owners.{expr_items, value_items, first_item}
 use Rattle.definition.specs.Values.{Value, eqv}
 use Rattle.definition.specs.Meaning.{phi_value, assigned, call_returns, item_values, strict, loose, defined_once, value_at}
+use Rattle.std.specs.Prelude.{Option, Some, None}
+use Rattle.std.specs.Option.{MatchOption}
 use Rattle.defined.specs.declared.value.Value.{Value as CValue}
-use Rattle.defined.specs.declared.value.Defined.{Defined}
-use Rattle.defined.specs.declared.value.Defined.TheVariants.{Nothing, One}
 use Rattle.defined.specs.Defined.{value_of, list_of, lone, item_value, first_value, hit, phi_hits, item_hits, stmt_hits, hits}
 use Rattle.definition.proofs.ListLaws.{count_append}
-use Rattle.defined.proofs.Ranges.{all_one, all_map, all_gather, count_map, count_gather}
+use Rattle.defined.proofs.Ranges.{all_map, all_gather, count_map, count_gather}
 use Rattle.records.proofs.Below.{sum_add, sum_same}
 
 -- ---- one value against another
@@ -29,22 +29,19 @@ pub hit_no : (v w : Value) (t : Bool) → t ≡ eqv v w → t ≡ false → 0 �
 unfolding hit
 hit_no v w t e h = rw (← e, h)
 
-pub count_none : (v : Value) (d : Defined) → d ≡ Nothing → 0 ≡ count (eqv v) (list_of d)
-unfolding count
-count_none v d e = rw e
-
-pub count_hit : (v : Value) (d : Defined) (w : CValue) (n : ℕ) → d ≡ One w → n ≡ hit v (value_of w) → n ≡ count (eqv v) (list_of d)
+pub defined_count : (v : Value) (d : Option CValue) {n : ℕ} {Q : CValue → Type 0} → MatchOption d (n ≡ 0) Q → ((w : CValue) → Q w → n ≡ hit v (value_of w)) → n ≡ count (eqv v) (list_of d)
 unfolding count hit
-count_hit v d w n e h = rw e h
+defined_count v None h more = h
+defined_count v (Some w) h more = more w h
 
--- all of what an Assign defines
-pub none_lone : (f : List ℕ) (i : ℕ) (d : Defined) → list_of d ≡ assigned f i → d ≡ Nothing → true ≡ all (lone f) (assigned f i)
-unfolding all
-none_lone f i d h e = sym (ap (all (lone f)) (sym h ∙ ap list_of e))
-
-pub one_lone : (f : List ℕ) (i : ℕ) (d : Defined) (v : CValue) (t : Bool) → list_of d ≡ assigned f i → d ≡ One v → t ≡ lone f (value_of v)
-    → t ≡ all (lone f) (assigned f i)
-one_lone f i d v t h e k = k ∙ sym (ap (all (lone f)) (sym h ∙ ap list_of e) ∙ all_one (lone f) (value_of v))
+pub defined_few : (v : Value) (d : Option CValue) → count (eqv v) (list_of d) ≤ 1
+unfolding count
+defined_few v None = omega arith
+defined_few v (Some w) = go (eqv v (value_of w))
+  where
+    go : (t : Bool) → cond t 1 0 ≤ 1
+    go true = omega arith
+    go false = omega arith
 
 -- ---- all places
 module _ (f : List ℕ) (v : Value) where
@@ -92,15 +89,9 @@ module _ (f : List ℕ) (v : Value) where
       let w : k ≡ item_hits f v (first_item f i + expr_items f i) (value_items f i) = u ∙ ap₂ (item_hits f v) (ap₂ (λ (m n : ℕ). m + n) p q) r in
       omega arith
 
-  pub lone_zero : v.ver ≡ 0 → false ≡ lone f v
-  unfolding lone
-  lone_zero h = rw (eq-eqb v.ver 0 h)
-
-  pub lone_count : (t : Bool) (p s : ℕ) → (v.ver ≡ 0 → ⊥) → p ≡ phi_hits f v (size f phis) → s ≡ sum_below (size f statements) (stmt_hits f v)
-      → t ≡ eqb (p + s) 1 → t ≡ lone f v
+  pub lone_is : lone f v ≡ (not (eqb v.ver 0) && eqb (phi_hits f v (size f phis) + sum_below (size f statements) (stmt_hits f v)) 1)
   unfolding lone hits
-  lone_count t p s h a b e =
-      rw (ne_eqb v.ver 0 h) (e ∙ ap (λ (n : ℕ). eqb n 1) (ap₂ (λ (m n : ℕ). m + n) a b ∙ sym hits_are))
+  lone_is = ap (λ (n : ℕ). not (eqb v.ver 0) && eqb n 1) hits_are
 
 module _ (f : List ℕ) where
   abbrev pub phi_lone : ℕ → Bool

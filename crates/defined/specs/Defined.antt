@@ -1,5 +1,5 @@
 -- What the file defines, place by place: the code's values read as the definition's, and how often a value is defined, as sums over places.
-use Rattle.std.specs.Prelude.{Bool, not, cond, ◌&&◌, List, [], ◌∷◌, ◌++◌, ℕ, ◌+◌, eqb}
+use Rattle.std.specs.Prelude.{Option, Some, None, Bool, not, cond, ◌&&◌, List, [], ◌∷◌, ◌++◌, ℕ, ◌+◌, eqb}
 use Rattle.definition.specs.Edition.{phis, statements, lists, item_words}
 use Rattle.definition.specs.Lists.{count, sum_below}
 use Rattle.definition.specs.Contents.{size}
@@ -7,16 +7,14 @@ use Rattle.definition.specs.Owners.{expr_items, value_items, first_item}
 use Rattle.definition.specs.Values.{Value as DValue, value, eqv}
 use Rattle.definition.specs.Meaning.{value_at, phi_value, assigned, call_returns, strict, loose}
 use Rattle.defined.specs.declared.value.Value.{Value}
-use Rattle.defined.specs.declared.value.Defined.{Defined}
-use Rattle.defined.specs.declared.value.Defined.TheVariants.{Nothing, One}
 
 abbrev pub value_of : Value → DValue
 value_of v = value v.reg v.ver
 
 -- nothing, or one value
-abbrev pub list_of : Defined → List DValue
-list_of Nothing = []
-list_of (One v) = value_of v ∷ []
+abbrev pub list_of : Option Value → List DValue
+list_of None = []
+list_of (Some v) = value_of v ∷ []
 
 -- a value of a version above 0 that is defined at one place
 unfoldable pub lone : List ℕ → DValue → Bool

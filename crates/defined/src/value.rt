@@ -16,26 +16,16 @@ pub const REGISTERS: u32 = 16;
 
 pub const RSP: u32 = 4;
 
-#[derive(Clone, Copy)]
+#[derive(Clone, Copy, PartialEq, Eq)]
 pub struct Value {
     pub reg: u32,
     pub ver: u32,
 }
 
-// What a statement defines by its own fields.
-#[derive(Clone, Copy)]
-pub enum Defined {
-    Nothing,
-    One(Value),
-}
-
 pub fn same_value(a: Value, b: Value) -> bool
     ensures { result ≡ eqv (value_of a) (value_of b) }
 {
-    if a.reg != b.reg {
-        return false;
-    }
-    a.ver == b.ver
+    a == b
 }
 
 // The value that words 0 and 1 of record i name, in section s of records of w words.
@@ -63,29 +53,26 @@ pub fn item_value(f: &[u8], k: u32) -> Value
 }
 
 // What an Assign defines.
-pub fn assigned_by(f: &[u8], i: u32) -> Defined
+pub fn assigned_by(f: &[u8], i: u32) -> Option<Value>
     ensures { list_of result ≡ assigned f.now i }
 {
     if stmt_kind(f, i) != ASSIGN {
-        return Defined::Nothing;
+        return None;
     }
-    Defined::One(Value {
+    Some(Value {
         reg: stmt_field(f, i, 0),
         ver: stmt_field(f, i, 1),
     })
 }
 
 // What a Call returns.
-pub fn returned_by(f: &[u8], i: u32) -> Defined
+pub fn returned_by(f: &[u8], i: u32) -> Option<Value>
     ensures { list_of result ≡ call_returns f.now i }
 {
-    if stmt_kind(f, i) != CALL {
-        return Defined::Nothing;
+    if stmt_kind(f, i) != CALL || stmt_field(f, i, 3) != 1 {
+        return None;
     }
-    if stmt_field(f, i, 3) != 1 {
-        return Defined::Nothing;
-    }
-    Defined::One(Value {
+    Some(Value {
         reg: stmt_field(f, i, 4),
         ver: stmt_field(f, i, 5),
     })

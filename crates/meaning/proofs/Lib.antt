@@ -1,6 +1,5 @@
 pub mod Twice
 pub mod RegistersNamed
-pub mod Choice
 pub mod Apart
-pub mod Refusing
+pub mod Opening
 pub mod Unique

@@ -1,13 +1,12 @@
 -- The registers that the file names, section by section.
-use mathlib.Core.Path.{◌≡◌, refl}
-use mathlib.Core.Bool.{Bool, true, false, ◌&&◌}
+use mathlib.Core.Path.{◌≡◌}
+use mathlib.Core.Bool.{Bool}
 use mathlib.Core.List.{List, ◌++◌, map}
 use Prim.Native.Nat.{ℕ}
-use Rattle.definition.specs.Edition.{args, phis, statements, expressions}
+use Rattle.definition.specs.Edition.{args, phis, statements}
 use Rattle.definition.specs.Lists.{all, gather, range, all_below}
 use Rattle.definition.specs.Contents.{size, arg_at}
-use Rattle.definition.specs.Meaning.{is_register, arg_regs, phi_value, assigned, call_returns, item_values, strict, loose, use_register, registers}
-use Rattle.records.proofs.Also.{also}
+use Rattle.definition.specs.Meaning.{is_register, arg_regs, phi_value, assigned, call_returns, item_values, loose}
 use Rattle.defined.proofs.Ranges.{all_map, all_gather}
 use Rattle.defined.proofs.Tested.{loose_all}
 use Rattle.each.specs.Rules.{named}
@@ -37,13 +36,3 @@ module _ (f : List ℕ) where
 
   pub loose_named_lem : all named (loose f) ≡ all_below (size f statements) loose_named
   loose_named_lem = loose_all f named
-
-  pub registers_are : also (all is_register (arg_regs f)) (also (all named (strict f)) (also (all named (loose f)) (all_below (size f expressions) (use_register f))))
-      ≡ registers f
-  unfolding registers also
-  registers_are = go (all is_register (arg_regs f)) (all named (strict f)) (all named (loose f)) (all_below (size f expressions) (use_register f))
-    where
-      go : (a b c d : Bool) → (a && (b && (c && d))) ≡ (a && b && c && d)
-      go false b c d = refl
-      go true false c d = refl
-      go true true c d = refl

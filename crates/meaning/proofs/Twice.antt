@@ -7,6 +7,7 @@ use lib.Dec.{eqb}
 use Rattle.definition.proofs.Bools.{eqb_swap}
 use Rattle.records.proofs.Also.{and_cross}
 use Rattle.records.proofs.Ranges.{map_last}
+use Rattle.meaning.specs.Keys.{IsNew}
 use Rattle.definition.specs.Lists.{any, range, all_below, among, distinct}
 
 not_or : (a b : Bool) → not (a || b) ≡ (not a && not b)
@@ -38,7 +39,14 @@ among_below x g (suc n) =
     ap (λ (l : List ℕ). not (among x l)) (map_last g n) ∙ among_append x (map g (range 0 n)) (g n)
     ∙ ap (λ (b : Bool). b && not (eqb x (g n))) (among_below x g n)
 
-pub distinct_below : (g : ℕ → ℕ) (n : ℕ) → distinct (map g (range 0 n)) ≡ all_below n (λ i. all_below i (λ j. not (eqb (g i) (g j))))
+-- number i, which g makes of i, is none of those before it
+abbrev pub is_new : (ℕ → ℕ) → ℕ → Bool
+is_new g i = all_below i (λ j. not (eqb (g i) (g j)))
+
+pub new_among : (g : ℕ → ℕ) {key : ℕ → ℕ → Type 0} → ((j x : ℕ) → key j x → x ≡ g j) → {i : ℕ} {r : Bool} → IsNew key i r → r ≡ is_new g i
+new_among g told h = h.says g told
+
+pub distinct_below : (g : ℕ → ℕ) (n : ℕ) → distinct (map g (range 0 n)) ≡ all_below n (is_new g)
 unfolding all_below range distinct
 distinct_below g zero = refl
 distinct_below g (suc n) =

@@ -6,11 +6,9 @@ use Prim.Native.Nat.{ℕ}
 use lib.ListN.{replicate}
 use Rattle.definition.specs.Lists.{among, distinct}
 use Rattle.definition.specs.Values.{RSP}
-use Rattle.definition.specs.Meaning.{bits, arg_regs, rising, registers, refused6}
+use Rattle.definition.specs.Meaning.{bits, arg_regs, starts, rising, registers, refused6}
 use Rattle.records.specs.declared.edition.Edition.{Edition}
 use Rattle.records.specs.Editions.{edition_of}
-use Rattle.meaning.specs.declared.distinct.Keys.{Keys}
-use Rattle.meaning.specs.Choice.{keys}
 
 pub bits_of : (f : List ℕ) (r s : ℕ) → r ≡ bits f → s ≡ bits f → r ≡ s
 bits_of f r s p q = p ∙ sym q
@@ -19,8 +17,11 @@ module _ (f : List ℕ) (r s : Bool) where
   pub registers_named : r ≡ registers f → s ≡ registers f → r ≡ s
   registers_named p q = p ∙ sym q
 
-  pub keys_distinct : (k : Keys) → r ≡ distinct (keys f k) → s ≡ distinct (keys f k) → r ≡ s
-  keys_distinct k p q = p ∙ sym q
+  pub args_distinct : r ≡ distinct (arg_regs f) → s ≡ distinct (arg_regs f) → r ≡ s
+  args_distinct p q = p ∙ sym q
+
+  pub starts_distinct : r ≡ distinct (starts f) → s ≡ distinct (starts f) → r ≡ s
+  starts_distinct p q = p ∙ sym q
 
   pub args_spare_rsp : r ≡ not (among RSP (arg_regs f)) → s ≡ not (among RSP (arg_regs f)) → r ≡ s
   args_spare_rsp p q = p ∙ sym q

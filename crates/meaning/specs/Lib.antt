@@ -1,2 +1,2 @@
 pub mod Parts
-pub mod Choice
+pub mod Keys

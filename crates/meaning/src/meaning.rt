@@ -9,7 +9,7 @@ ghost use Rattle.definition.specs.Meaning.{bits, targeted, refused6 as is_refuse
 ghost use Rattle.records.specs.Editions.{edition_of};
 ghost use Rattle.meaning.specs.Parts.{rest_sound};
 
-use crate::distinct::{Keys, args_spare_rsp, keys_distinct, names_rise};
+use crate::distinct::{args_distinct, args_spare_rsp, names_rise, starts_distinct};
 use crate::registers_named::registers_named;
 use records::contents::{STATEMENTS, offset_of, size_of};
 use records::edition::Edition;
@@ -24,50 +24,34 @@ pub fn bits_of(f: &[u8]) -> u32
     word_at(f, 4)
 }
 
+#[tactic(auto, using(std::proofs::lemmas::Bool::Decides::nat_tests))]
 fn bits_known(f: &[u8]) -> bool
     ensures { result ≡ (eqb (bits f.now) 32 || eqb (bits f.now) 64) }
 {
     let n = bits_of(f);
-    if n == 32 {
-        return true;
-    }
-    n == 64
+    n == 32 || n == 64
 }
 
 // Whether n bytes of the text from `start` on begin with `[`: a computed target.
 fn opens(e: Edition, f: &[u8], start: u32, n: u32) -> bool
     ensures { result ≡ begins (txt "[") (text_at (edition_of e) f.now start n) }
 {
-    if n == 0 {
-        return false;
-    }
-    begins_at(b"[", f, offset_of(f, e.text()) as usize + start as usize)
+    n != 0 && begins_at(b"[", f, offset_of(f, e.text()) as usize + start as usize)
 }
 
+#[tactic(auto, using(std::proofs::lemmas::Bool::Decides::nat_tests), unfolding(definition::specs::Meaning::targeted))]
 fn call_targeted(e: Edition, f: &[u8], i: u32) -> bool
     ensures { result ≡ targeted (edition_of e) f.now i }
 {
-    if stmt_kind(f, i) != CALL {
-        return true;
-    }
-    if !opens(e, f, stmt_field(f, i, 0), stmt_field(f, i, 1)) {
-        return true;
-    }
-    stmt_field(f, i, 2) != 0
+    stmt_kind(f, i) != CALL
+        || !opens(e, f, stmt_field(f, i, 0), stmt_field(f, i, 1))
+        || stmt_field(f, i, 2) != 0
 }
 
 fn calls_targeted(e: Edition, f: &[u8]) -> bool
     ensures { result ≡ all_below (size f.now statements) (targeted (edition_of e) f.now) }
 {
-    let n = size_of(f, STATEMENTS);
-    let mut i = 0;
-    while i < n {
-        if !call_targeted(e, f, i) {
-            return false;
-        }
-        i += 1;
-    }
-    true
+    (0..size_of(f, STATEMENTS)).all(|i| call_targeted(e, f, i))
 }
 
 // All of check 6 but what is defined once.
@@ -75,25 +59,13 @@ fn rest_sound(e: Edition, f: &[u8]) -> bool
     requires { owned f.now ≡ true }
     ensures { result ≡ rest_sound (edition_of e) f.now }
 {
-    if !bits_known(f) {
-        return false;
-    }
-    if !registers_named(f) {
-        return false;
-    }
-    if !keys_distinct(f, Keys::Args) {
-        return false;
-    }
-    if !args_spare_rsp(f) {
-        return false;
-    }
-    if !keys_distinct(f, Keys::Starts) {
-        return false;
-    }
-    if !names_rise(f) {
-        return false;
-    }
-    calls_targeted(e, f)
+    bits_known(f)
+        && registers_named(f)
+        && args_distinct(f)
+        && args_spare_rsp(f)
+        && starts_distinct(f)
+        && names_rise(f)
+        && calls_targeted(e, f)
 }
 
 // The scratch begins and ends as zeros.
@@ -102,8 +74,5 @@ pub fn refused6(e: Edition, f: &[u8], scratch: &mut [u32]) -> bool
     requires scratch_value { scratch.old ≡ replicate (length scratch.old) 0 }
     ensures { (result ≡ is_refused6 (edition_of e) f.now) × (scratch.new ≡ replicate (length scratch.old) 0) }
 {
-    if !rest_sound(e, f) {
-        return true;
-    }
-    !defined_once(scratch, f)
+    !(rest_sound(e, f) && defined_once(scratch, f))
 }

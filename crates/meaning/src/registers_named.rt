@@ -1,26 +1,47 @@
 // Every register that the file names is one of the sixteen.
-ghost use Rattle.std.specs.Prelude.{◌≡◌, true, ◌++◌, ◌+◌, ◌<◌};
-ghost use Rattle.definition.specs.Edition.{statements};
-ghost use Rattle.definition.specs.Lists.{all, all_below};
+ghost use Rattle.std.specs.Prelude.{◌≡◌, true, map, ◌++◌, ◌+◌, ◌<◌};
+ghost use Rattle.definition.specs.Edition.{phis, statements, expressions};
+ghost use Rattle.definition.specs.Lists.{all, all_below, gather, range};
 ghost use Rattle.definition.specs.Contents.{size};
 ghost use Rattle.definition.specs.Owners.{first_item};
 ghost use Rattle.definition.specs.Shape.{owned};
-ghost use Rattle.definition.specs.Meaning.{call_returns, item_values, strict, loose, registers};
+ghost use Rattle.definition.specs.Meaning.{is_register, arg_regs, phi_value, assigned, call_returns, item_values, strict, loose, use_register, registers};
 ghost use Rattle.defined.specs.Defined.{item_value};
 ghost use Rattle.each.specs.Rules.{named};
 
-use defined::value::{item_value, next_item, returned_by};
-use each::{Rule, defined_named, is_register, records_right};
-use records::contents::{ARGS, EXPRESSIONS, PHIS, STATEMENTS, size_of};
+use defined::value::{assigned_by, item_value, next_item, phi_value, returned_by};
+use each::{defined_named, is_register, use_named};
+use records::contents::{ARGS, EXPRESSIONS, PHIS, STATEMENTS, arg_at, size_of};
 use records::owners::{expr_items, value_items};
+
+fn args_named(f: &[u8]) -> bool
+    ensures { result ≡ all is_register (arg_regs f.now) }
+{
+    (0..size_of(f, ARGS)).all(|i| is_register(arg_at(f, i)))
+}
+
+fn phis_named(f: &[u8]) -> bool
+    ensures { result ≡ all named (map (phi_value f.now) (range 0 (size f.now phis))) }
+{
+    (0..size_of(f, PHIS)).all(|i| is_register(phi_value(f, i).reg))
+}
+
+fn assigns_named(f: &[u8]) -> bool
+    ensures { result ≡ all named (gather (assigned f.now) (range 0 (size f.now statements))) }
+{
+    (0..size_of(f, STATEMENTS)).all(|i| defined_named(assigned_by(f, i)))
+}
+
+fn uses_named(f: &[u8]) -> bool
+    ensures { result ≡ all_below (size f.now expressions) (use_register f.now) }
+{
+    (0..size_of(f, EXPRESSIONS)).all(|i| use_named(f, i))
+}
 
 fn strict_named(f: &[u8]) -> bool
     ensures { result ≡ all named (strict f.now) }
 {
-    if !records_right(f, Rule::PhiNamed, size_of(f, PHIS)) {
-        return false;
-    }
-    records_right(f, Rule::AssignNamed, size_of(f, STATEMENTS))
+    phis_named(f) && assigns_named(f)
 }
 
 // The n items from place `from` on.
@@ -28,14 +49,7 @@ fn items_named(f: &[u8], from: u32, n: u32) -> bool
     requires { from + n < 4294967296 }
     ensures { result ≡ all_below n (λ k. named (item_value f.now (from + k))) }
 {
-    let mut k = 0;
-    while k < n {
-        if !is_register(item_value(f, from + k).reg) {
-            return false;
-        }
-        k += 1;
-    }
-    true
+    (0..n).all(|k| is_register(item_value(f, from + k).reg))
 }
 
 // What a Call or an Other defines; its items begin at place `at`.
@@ -43,25 +57,19 @@ fn loose_named_at(f: &[u8], i: u32, at: u32) -> bool
     requires { (owned f.now ≡ true) × (i < size f.now statements) × (at ≡ first_item f.now i) }
     ensures { result ≡ all named (call_returns f.now i ++ item_values f.now i) }
 {
-    if !defined_named(returned_by(f, i)) {
-        return false;
-    }
-    items_named(f, at + expr_items(f, i), value_items(f, i))
+    defined_named(returned_by(f, i)) && items_named(f, at + expr_items(f, i), value_items(f, i))
 }
 
 fn loose_named(f: &[u8]) -> bool
     requires { owned f.now ≡ true }
     ensures { result ≡ all named (loose f.now) }
 {
-    let n = size_of(f, STATEMENTS);
-    let mut i = 0;
     let mut at = 0;
-    while i < n {
+    for i in 0..size_of(f, STATEMENTS) {
         if !loose_named_at(f, i, at) {
             return false;
         }
         at = next_item(f, i, at);
-        i += 1;
     }
     true
 }
@@ -70,14 +78,5 @@ pub fn registers_named(f: &[u8]) -> bool
     requires { owned f.now ≡ true }
     ensures { result ≡ registers f.now }
 {
-    if !records_right(f, Rule::ArgNamed, size_of(f, ARGS)) {
-        return false;
-    }
-    if !strict_named(f) {
-        return false;
-    }
-    if !loose_named(f) {
-        return false;
-    }
-    records_right(f, Rule::UseNamed, size_of(f, EXPRESSIONS))
+    args_named(f) && strict_named(f) && loose_named(f) && uses_named(f)
 }

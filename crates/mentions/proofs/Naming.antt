@@ -1,42 +1,20 @@
--- The expressions that a record names: by its tag or kind, and as a loop over their numbers.
-use mathlib.Core.Path.{◌≡◌, refl, sym, ap, ◌∙◌}
+-- The expressions that a record names, and a loop over their numbers.
+use mathlib.Core.Path.{◌≡◌, refl, ap, ◌∙◌}
 use mathlib.Core.Bool.{Bool, true, false, cond}
 use mathlib.Core.List.{List, [], ◌∷◌, map}
-use Prim.Native.Nat.{ℕ, suc, ◌+◌, ◌-◌, ◌≤◌, ◌<◌}
+use Prim.Native.Nat.{ℕ, ◌+◌, ◌-◌, ◌≤◌}
 use native.Mathlib.Decide.{ℕ_discrete}
 use native.Mathlib.Omega.{arith}
-use lib.Dec.{eqb, ltb}
-use borrow.Author.Tests.{ne_eqb, lt-ltb, le-ltb}
-use Rattle.definition.specs.Edition.{expressions}
-use Rattle.definition.specs.Contents.{size, item_word, expr_word}
-use Rattle.definition.specs.Lists.{all, range}
+use lib.Dec.{eqb}
+use borrow.Author.Tests.{ne_eqb}
+use Rattle.definition.specs.Contents.{item_word, expr_word}
+use Rattle.definition.specs.Lists.{range}
 use Rattle.definition.specs.Owners.{stmt_kind, stmt_field, expr_items, first_item}
-use Rattle.definition.specs.References.{children, roots, item_exprs, children_lower, roots_inside}
+use Rattle.definition.specs.References.{children, roots, item_exprs}
 use Rattle.definition.proofs.Runs.{loop_start}
 use Rattle.mentions.specs.Named.{child_count, child_at, root_count, root_at}
 
--- ---- children, by the tag that was read
-module _ (f : List ℕ) (i t : ℕ) (tag : t ≡ expr_word f i 0) where
-  abbrev pub count_by : ℕ → ℕ
-  count_by m = cond (eqb m 3) 2 (cond (eqb m 4) 1 (cond (eqb m 5) 1 0))
-
-  pub tag_count : (m : ℕ) → t ≡ m → count_by m ≡ child_count f i
-  unfolding child_count
-  tag_count m e = ap count_by (sym e ∙ tag)
-
-  pub no_count : (t ≡ 3 → ⊥) → (t ≡ 4 → ⊥) → (t ≡ 5 → ⊥) → 0 ≡ child_count f i
-  unfolding child_count
-  no_count a b c = rw (← tag, ne_eqb t 3 a, ne_eqb t 4 b, ne_eqb t 5 c)
-
-  pub load_child : (k n : ℕ) → t ≡ 5 → n ≡ expr_word f i 2 → n ≡ child_at f i k
-  unfolding child_at
-  load_child k n e h = rw (sym tag ∙ e) h
-
-  pub other_child : (k n : ℕ) → (t ≡ 5 → ⊥) → n ≡ expr_word f i (3 + k) → n ≡ child_at f i k
-  unfolding child_at
-  other_child k n e h = rw (← tag, ne_eqb t 5 e) h
-
--- two at most
+-- ---- children: two at most
 pub count_few : (f : List ℕ) (i : ℕ) → child_count f i ≤ 2
 unfolding child_count
 count_few f i = go (eqb (expr_word f i 0) 3) (eqb (expr_word f i 0) 4) (eqb (expr_word f i 0) 5)
@@ -59,41 +37,7 @@ children_are f i = go (expr_word f i 0) (expr_word f i) (ℕ_discrete (expr_word
     go t w (no a) (no b) (yes e) = rw e
     go t w (no a) (no b) (no c) = rw (ne_eqb t 3 a, ne_eqb t 4 b, ne_eqb t 5 c)
 
--- ---- roots, by the kind that was read
-module _ (f : List ℕ) (i k : ℕ) (kind : k ≡ stmt_kind f i) where
-  abbrev pub roots_by : ℕ → ℕ
-  roots_by m = cond (eqb m 1) 1 (cond (eqb m 2) 2 (cond (eqb m 5) 2 (cond (eqb m 6) (cond (eqb (stmt_field f i 0) 1) 1 0) (expr_items f i))))
-
-  pub kind_count : (m : ℕ) → k ≡ m → roots_by m ≡ root_count f i
-  unfolding root_count
-  kind_count m e = ap roots_by (sym e ∙ kind)
-
-  pub return_count : (v : ℕ) → k ≡ 6 → v ≡ stmt_field f i 0 → v ≡ 1 → 1 ≡ root_count f i
-  unfolding root_count
-  return_count v e p q = rw (sym kind ∙ e, sym p ∙ q)
-
-  pub return_none : (v : ℕ) → k ≡ 6 → v ≡ stmt_field f i 0 → (v ≡ 1 → ⊥) → 0 ≡ root_count f i
-  unfolding root_count
-  return_none v e p q = rw (sym kind ∙ e, ← p, ne_eqb v 1 q)
-
-  pub item_count : (n : ℕ) → (k ≡ 1 → ⊥) → (k ≡ 2 → ⊥) → (k ≡ 5 → ⊥) → (k ≡ 6 → ⊥) → n ≡ expr_items f i → n ≡ root_count f i
-  unfolding root_count
-  item_count n a b c d h = rw (← kind, ne_eqb k 1 a, ne_eqb k 2 b, ne_eqb k 5 c, ne_eqb k 6 d) h
-
-  module _ (first j n : ℕ) where
-    abbrev pub root_by : ℕ → ℕ
-    root_by m =
-        cond (eqb m 1) (stmt_field f i 2)
-        (cond (eqb m 2) (stmt_field f i (1 + j)) (cond (eqb m 5) (stmt_field f i (1 + j)) (cond (eqb m 6) (stmt_field f i 1) (item_word f (first + j) 0))))
-
-    pub kind_root : (m : ℕ) → k ≡ m → n ≡ root_by m → n ≡ root_at f i first j
-    unfolding root_at
-    kind_root m e h = h ∙ ap root_by (sym e ∙ kind)
-
-    pub item_root : (k ≡ 1 → ⊥) → (k ≡ 2 → ⊥) → (k ≡ 5 → ⊥) → (k ≡ 6 → ⊥) → n ≡ item_word f (first + j) 0 → n ≡ root_at f i first j
-    unfolding root_at
-    item_root a b c d h = rw (← kind, ne_eqb k 1 a, ne_eqb k 2 b, ne_eqb k 5 c, ne_eqb k 6 d) h
-
+-- ---- roots
 pub roots_are : (f : List ℕ) (i first : ℕ) → first ≡ first_item f i → roots f i ≡ map (root_at f i first) (range 0 (root_count f i))
 unfolding roots item_exprs root_at root_count range
 roots_are f i first p =
@@ -113,35 +57,6 @@ roots_are f i first p =
     go false false false true false = refl
     go false false false false e = refl
 
--- ---- every name below b, from the k-th on
-unfoldable pub names_below : (ℕ → ℕ) → ℕ → ℕ → ℕ → Bool
-names_below g b k m = all (λ (c : ℕ). ltb c b) (map g (range k m))
-
-module _ (g : ℕ → ℕ) (b n k x : ℕ) (here : k < n) (read : x ≡ g k) where
-  left_more : n - k ≡ suc (n - (k + 1))
-  left_more = omega arith
-
-  pub below_turn : x < b → names_below g b k (n - k) ≡ names_below g b (k + 1) (n - (k + 1))
-  unfolding names_below all range
-  below_turn h = rw (left_more, ← read, lt-ltb x b h)
-
-  pub below_fail : b ≤ x → false ≡ names_below g b k (n - k)
-  unfolding names_below all range
-  below_fail h = rw (left_more, ← read, le-ltb x b h)
-
-pub below_end : (g : ℕ → ℕ) (b n k : ℕ) → n ≤ k → true ≡ names_below g b k (n - k)
-unfolding names_below all range
-below_end g b n k h = let s : n - k ≡ 0 = omega arith in rw s
-
 -- what is made of all names is made of those from the first on
 pub names_start {ℓ} : {B : Type ℓ} (h : List ℕ → B) (g : ℕ → ℕ) {n m : ℕ} {xs : List ℕ} → xs ≡ map g (range 0 m) → n ≡ m → h xs ≡ h (map g (range 0 (n - 0)))
 names_start h g {n} {m} p e = ap h p ∙ loop_start (λ (k : ℕ). h (map g (range 0 k))) n m e
-
-pub lower_start : (f : List ℕ) (i n : ℕ) → n ≡ child_count f i → children_lower f i ≡ names_below (child_at f i) i 0 (n - 0)
-unfolding children_lower names_below
-lower_start f i n e = names_start (all (λ (c : ℕ). ltb c i)) (child_at f i) (children_are f i) e
-
-pub inside_start : (f : List ℕ) (i first b n : ℕ) → first ≡ first_item f i → b ≡ size f expressions → n ≡ root_count f i
-    → roots_inside f i ≡ names_below (root_at f i first) b 0 (n - 0)
-unfolding roots_inside names_below
-inside_start f i first b n p q e = rw q (names_start (all (λ (c : ℕ). ltb c (size f expressions))) (root_at f i first) (roots_are f i first p) e)

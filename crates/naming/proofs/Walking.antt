@@ -12,9 +12,8 @@ use Rattle.definition.specs.Values.{Value, value}
 use Rattle.definition.specs.Meaning.{phi_value, assigned, call_returns, value_at}
 use Rattle.definition.specs.Read.{marked}
 use Rattle.definition.proofs.Runs.{run_then}
+use Rattle.std.specs.Prelude.{Option, Some, None}
 use Rattle.defined.specs.declared.value.Value.{Value as Value'}
-use Rattle.defined.specs.declared.value.Defined.{Defined}
-use Rattle.defined.specs.declared.value.Defined.TheVariants.{Nothing, One}
 use Rattle.defined.specs.Defined.{value_of, list_of, item_value}
 use Rattle.places.specs.declared.Places.{Places}
 use Rattle.places.specs.Keys.{places_of}
@@ -49,12 +48,12 @@ module _ (f order : List ℕ) (P : Places) (run : Run) (k : ℕ) (places : P ≡
   use_spot_lem n reg ver e a q r = rw (e, places, q, r, a)
 
 -- ---- returns
-module _ (K : Known) (p : ℕ) (S : State) (d : Defined) where
-  pub defined_none : d ≡ Nothing → S ≡ walked K S (map (spot p) (list_of d))
+module _ (K : Known) (p : ℕ) (S : State) (d : Option Value') where
+  pub defined_none : d ≡ None → S ≡ walked K S (map (spot p) (list_of d))
   unfolding walked
   defined_none h = rw h
 
-  pub defined_one : (S' : State) (v : Value') → d ≡ One v → S' ≡ named K S (spot p (value_of v)) → S' ≡ walked K S (map (spot p) (list_of d))
+  pub defined_one : (S' : State) (v : Value') → d ≡ Some v → S' ≡ named K S (spot p (value_of v)) → S' ≡ walked K S (map (spot p) (list_of d))
   unfolding walked
   defined_one S' v h e = rw h e
 
@@ -82,7 +81,7 @@ module _ (K : Known) (f : List ℕ) (i r n : ℕ) (S : State) (is : value r n �
       (u ∙ ap₂ (λ (x y : ℕ). walked K T (map (input_spot f i) (range x y))) b (k ∙ c)))
 
 module _ (K : Known) (f : List ℕ) (i : ℕ) (S : State) where
-  pub fields_two : (p q : ℕ) (d e : Defined) (T R : State) → p ≡ q + i → q ≡ (places_of f).stmts → list_of d ≡ assigned f i → list_of e ≡ call_returns f i
+  pub fields_two : (p q : ℕ) (d e : Option Value') (T R : State) → p ≡ q + i → q ≡ (places_of f).stmts → list_of d ≡ assigned f i → list_of e ≡ call_returns f i
       → T ≡ walked K S (map (spot p) (list_of d)) → R ≡ walked K T (map (spot p) (list_of e)) → R ≡ walked K S (field_spots f i)
   unfolding field_spots
   fields_two p q d e T R a b x y t u =

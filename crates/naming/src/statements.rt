@@ -12,7 +12,7 @@ ghost use Rattle.naming.specs.Given.{Laid, Went, standing};
 
 use crate::position::Walk;
 use crate::runs::{Run, name_run};
-use defined::value::{Defined, assigned_by, next_item, returned_by};
+use defined::value::{Value, assigned_by, next_item, returned_by};
 use names::key::name_key;
 use places::Places;
 use records::owners::{expr_items, is_dead, value_items};
@@ -26,7 +26,7 @@ fn name_defined(
     roots: &[u32],
     away: &[u32],
     p: usize,
-    d: Defined,
+    d: Option<Value>,
     next: u32,
 ) -> u32
     ensures { state names.new seen.new result
@@ -34,8 +34,8 @@ fn name_defined(
         (map (spot p) (list_of d)) }
 {
     match d {
-        Defined::Nothing => next,
-        Defined::One(v) => name_key(names, seen, numbers, roots, away, p, v, next),
+        None => next,
+        Some(v) => name_key(names, seen, numbers, roots, away, p, v, next),
     }
 }
 

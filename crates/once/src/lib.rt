@@ -12,40 +12,32 @@ ghost use Rattle.definition.specs.Meaning.{phi_value, assigned, defined_once};
 ghost use Rattle.defined.specs.Defined.{value_of, list_of, lone, hit, phi_hits, item_hits, stmt_hits};
 
 use defined::value::{
-    Defined, Value, assigned_by, item_value, next_item, phi_value, returned_by, same_value,
+    Value, assigned_by, item_value, next_item, phi_value, returned_by, same_value,
 };
 use records::contents::{PHIS, STATEMENTS, size_of};
 use records::owners::{expr_items, value_items};
 
 // 1 where the two are equal.
+#[tactic(auto, using(std::proofs::lemmas::Bool::Decides::nat_tests), unfolding(defined::specs::Defined::hit))]
 fn hit_of(v: Value, w: Value) -> u32
     ensures { (result ≡ hit (value_of v) (value_of w)) × (result ≤ 1) }
 {
-    if same_value(v, w) {
-        return 1;
-    }
-    0
+    u32::from(same_value(v, w))
 }
 
-fn defined_hits(d: Defined, v: Value) -> u32
+fn defined_hits(d: Option<Value>, v: Value) -> u32
     ensures { (result ≡ count (eqv (value_of v)) (list_of d)) × (result ≤ 1) }
 {
-    match d {
-        Defined::Nothing => 0,
-        Defined::One(w) => hit_of(v, w),
-    }
+    d.map_or(0, |w| hit_of(v, w))
 }
 
 // How many phis define v.
 fn phi_hits(f: &[u8], v: Value) -> u32
     ensures { result ≡ phi_hits f.now (value_of v) (size f.now phis) }
 {
-    let n = size_of(f, PHIS);
     let mut sum = 0;
-    let mut i = 0;
-    while i < n {
+    for i in 0..size_of(f, PHIS) {
         sum += hit_of(v, phi_value(f, i));
-        i += 1;
     }
     sum
 }
@@ -56,10 +48,8 @@ fn item_hits(f: &[u8], v: Value, from: u32, n: u32) -> u32
     ensures { (result ≡ item_hits f.now (value_of v) from n) × (result ≤ n) }
 {
     let mut sum = 0;
-    let mut k = 0;
-    while k < n {
+    for k in 0..n {
         sum += hit_of(v, item_value(f, from + k));
-        k += 1;
     }
     sum
 }
@@ -78,14 +68,11 @@ fn stmts_hits(f: &[u8], v: Value) -> u64
     requires { owned f.now ≡ true }
     ensures { (result ≡ sum_below (size f.now statements) (stmt_hits f.now (value_of v))) × (result < 17179869184) }
 {
-    let n = size_of(f, STATEMENTS);
     let mut sum = 0;
-    let mut i = 0;
     let mut at = 0;
-    while i < n {
+    for i in 0..size_of(f, STATEMENTS) {
         sum += stmt_hits(f, v, i, at);
         at = next_item(f, i, at);
-        i += 1;
     }
     sum
 }
@@ -95,51 +82,28 @@ fn is_lone(f: &[u8], v: Value) -> bool
     requires { owned f.now ≡ true }
     ensures { result ≡ lone f.now (value_of v) }
 {
-    if v.ver == 0 {
-        return false;
-    }
-    phi_hits(f, v) as u64 + stmts_hits(f, v) == 1
+    v.ver != 0 && phi_hits(f, v) as u64 + stmts_hits(f, v) == 1
 }
 
 fn phis_lone(f: &[u8]) -> bool
     requires { owned f.now ≡ true }
     ensures { result ≡ all (lone f.now) (map (phi_value f.now) (range 0 (size f.now phis))) }
 {
-    let n = size_of(f, PHIS);
-    let mut i = 0;
-    while i < n {
-        if !is_lone(f, phi_value(f, i)) {
-            return false;
-        }
-        i += 1;
-    }
-    true
+    (0..size_of(f, PHIS)).all(|i| is_lone(f, phi_value(f, i)))
 }
 
 fn assigned_lone(f: &[u8], i: u32) -> bool
     requires { owned f.now ≡ true }
     ensures { result ≡ all (lone f.now) (assigned f.now i) }
 {
-    let d = assigned_by(f, i);
-    match d {
-        Defined::Nothing => true,
-        Defined::One(v) => is_lone(f, v),
-    }
+    assigned_by(f, i).is_none_or(|v| is_lone(f, v))
 }
 
 fn assigns_lone(f: &[u8]) -> bool
     requires { owned f.now ≡ true }
     ensures { result ≡ all (lone f.now) (gather (assigned f.now) (range 0 (size f.now statements))) }
 {
-    let n = size_of(f, STATEMENTS);
-    let mut i = 0;
-    while i < n {
-        if !assigned_lone(f, i) {
-            return false;
-        }
-        i += 1;
-    }
-    true
+    (0..size_of(f, STATEMENTS)).all(|i| assigned_lone(f, i))
 }
 
 // Quadratic over the file: it decides only where slots do not tell.
@@ -147,8 +111,5 @@ pub fn scan_once(f: &[u8]) -> bool
     requires { owned f.now ≡ true }
     ensures { result ≡ defined_once f.now }
 {
-    if !phis_lone(f) {
-        return false;
-    }
-    assigns_lone(f)
+    phis_lone(f) && assigns_lone(f)
 }

@@ -1,6 +1,10 @@
 -- What the table of owners holds after all mentions: entries of 1 are the expressions that are mentioned once.
 use mathlib.Core.Path.{◌≡◌, refl, sym, ap, ◌∙◌}
-use mathlib.Core.Bool.{cond}
+use mathlib.Core.Bool.{Bool, cond, ◌&&◌}
+use native.Mathlib.Numerals.{add-one}
+use lib.ListN.{take}
+use Rattle.std.specs.List.{list_all}
+use Rattle.std.proofs.lemmas.List.Folds.{list_all_more}
 use mathlib.Core.List.{List, [], ◌∷◌}
 use Prim.Native.Nat.{ℕ, zero, suc, ◌-◌, ◌≤◌, ◌<◌}
 use native.Mathlib.Decide.{ℕ_discrete}
@@ -38,6 +42,13 @@ mention_length t e = length-set t e (more (at t e))
 
 pub mention_keeps : (t u v : List ℕ) (e : ℕ) → u ≡ mentioned t e → length t ≡ length v → length u ≡ length v
 mention_keeps t u v e p h = ap length p ∙ mention_length t e ∙ h
+
+-- ---- the first entries
+pub front_all : (p : ℕ → Bool) (t : List ℕ) (n : ℕ) → n ≤ length t → list_all p (take n t) ≡ all_below n (λ e. p (at t e))
+unfolding all_below at
+front_all p t zero h = refl
+front_all p t (suc n) h =
+    rw (← add-one) (list_all_more p t n 0 (omega arith) ∙ ap (λ (b : Bool). b && p (get_or t n 0)) (front_all p t n (omega arith)))
 
 -- ---- runs of mentions
 pub tally_length : (es t : List ℕ) → length (tally t es) ≡ length t

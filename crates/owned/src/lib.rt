@@ -15,13 +15,14 @@ use records::owners::items_of;
 use zeros::clear;
 
 // One owner more; 2 says more than one, so that it never overflows.
+#[tactic(auto, using(crate::proofs::Tally::more_none, crate::proofs::Tally::more_some))]
 fn one_more(x: u32) -> u32
     ensures { result ≡ more x }
 {
-    if x == 0 {
-        return 1;
+    match x {
+        0 => 1,
+        _ => 2,
     }
-    2
 }
 
 fn mention(table: &mut [u32], e: u32)
@@ -39,22 +40,16 @@ fn tally_roots(table: &mut [u32], f: &[u8], i: u32, first: u32)
     requires i_bound { first + expr_items f.now i ≤ 4294967296 }
     ensures { table.new ≡ tally table.old (roots f.now i) }
 {
-    let n = root_count(f, i);
-    let mut k = 0;
-    while k < n {
+    for k in 0..root_count(f, i) {
         mention(table, root_at(f, i, first, k));
-        k += 1;
     }
 }
 
 fn tally_children(table: &mut [u32], f: &[u8], i: u32)
     ensures { table.new ≡ tally table.old (children f.now i) }
 {
-    let n = child_count(f, i);
-    let mut k = 0;
-    while k < n {
+    for k in 0..child_count(f, i) {
         mention(table, child_at(f, i, k));
-        k += 1;
     }
 }
 
@@ -63,24 +58,18 @@ fn tally_statements(table: &mut [u32], f: &[u8])
     requires { first_item f.now (size f.now statements) < 4294967296 }
     ensures { table.new ≡ tally table.old (gather (roots f.now) (range 0 (size f.now statements))) }
 {
-    let n = size_of(f, STATEMENTS);
     let mut first: u32 = 0;
-    let mut i = 0;
-    while i < n {
+    for i in 0..size_of(f, STATEMENTS) {
         tally_roots(table, f, i, first);
         first += items_of(f, i) as u32;
-        i += 1;
     }
 }
 
 fn tally_expressions(table: &mut [u32], f: &[u8])
     ensures { table.new ≡ tally table.old (gather (children f.now) (range 0 (size f.now expressions))) }
 {
-    let n = size_of(f, EXPRESSIONS);
-    let mut i = 0;
-    while i < n {
+    for i in 0..size_of(f, EXPRESSIONS) {
         tally_children(table, f, i);
-        i += 1;
     }
 }
 
@@ -89,14 +78,7 @@ fn all_once(table: &[u32], n: u32) -> bool
     requires { n ≤ length table.now }
     ensures { result ≡ all_below n (λ e. eqb (at table.now e) 1) }
 {
-    let mut i = 0;
-    while i < n {
-        if table[i as usize] != 1 {
-            return false;
-        }
-        i += 1;
-    }
-    true
+    table[..n as usize].iter().all(|x| *x == 1)
 }
 
 // Whether each expression has exactly one owner; the table is left as zeros.

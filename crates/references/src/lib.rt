@@ -21,15 +21,7 @@ use records::owners::items_of;
 fn children_lower(f: &[u8], i: u32) -> bool
     ensures { result ≡ children_lower f.now i }
 {
-    let n = child_count(f, i);
-    let mut k = 0;
-    while k < n {
-        if child_at(f, i, k) >= i {
-            return false;
-        }
-        k += 1;
-    }
-    true
+    (0..child_count(f, i)).all(|k| child_at(f, i, k) < i)
 }
 
 // Whether the expressions that statement i names are there; its list items begin at `first`.
@@ -39,29 +31,13 @@ fn roots_inside(f: &[u8], i: u32, first: u32) -> bool
     ensures { result ≡ roots_inside f.now i }
 {
     let expressions = size_of(f, EXPRESSIONS);
-    let n = root_count(f, i);
-    let mut k = 0;
-    while k < n {
-        if root_at(f, i, first, k) >= expressions {
-            return false;
-        }
-        k += 1;
-    }
-    true
+    (0..root_count(f, i)).all(|k| root_at(f, i, first, k) < expressions)
 }
 
 fn all_children_lower(f: &[u8]) -> bool
     ensures { result ≡ all_below (size f.now expressions) (children_lower f.now) }
 {
-    let n = size_of(f, EXPRESSIONS);
-    let mut i = 0;
-    while i < n {
-        if !children_lower(f, i) {
-            return false;
-        }
-        i += 1;
-    }
-    true
+    (0..size_of(f, EXPRESSIONS)).all(|i| children_lower(f, i))
 }
 
 // The first item of each statement is carried along, so that no sum is made twice.
@@ -69,15 +45,12 @@ fn all_roots_inside(f: &[u8]) -> bool
     requires { first_item f.now (size f.now statements) < 4294967296 }
     ensures { result ≡ all_below (size f.now statements) (roots_inside f.now) }
 {
-    let n = size_of(f, STATEMENTS);
     let mut first: u32 = 0;
-    let mut i = 0;
-    while i < n {
+    for i in 0..size_of(f, STATEMENTS) {
         if !roots_inside(f, i, first) {
             return false;
         }
         first += items_of(f, i) as u32;
-        i += 1;
     }
     true
 }
@@ -89,14 +62,5 @@ pub fn refused5(e: Edition, f: &[u8], owners: &mut [u32]) -> bool
     ensures { Answered (refused5 (edition_of e) f.now) result owners.old owners.new }
 {
     let once = owned_once(owners, f);
-    if !texts_sound(e, f) {
-        return true;
-    }
-    if !all_children_lower(f) {
-        return true;
-    }
-    if !all_roots_inside(f) {
-        return true;
-    }
-    !once
+    !(texts_sound(e, f) && all_children_lower(f) && all_roots_inside(f) && once)
 }

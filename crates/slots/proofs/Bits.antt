@@ -13,6 +13,9 @@ use lib.ListN.{length, get_or, length-set}
 use lib.Pow.{pow-lt, pow_pos}
 use lib.Seq.{get_or-set_same, get_or-set_other}
 use borrow.Author.Tests.{ltb-true, eqb-true, lt-ltb, le-ltb, eq-eqb}
+use denote.Bor.{Bor}
+use Rattle.std.specs.Prelude.{Option, Some, None}
+use Rattle.std.specs.Option.{MatchOption, unwrap_or, option_map}
 use Rattle.definition.specs.Values.{Value}
 use Rattle.definition.proofs.Bools.{both_true}
 use Rattle.slots.specs.Slots.{place, mask, free, marked}
@@ -62,13 +65,21 @@ pub free_inside : (t : List ℕ) (v : Value) (k : ℕ) → k ≡ place v → fre
 free_inside t v k p h = omega (arith, (free_told t v h).0)
 
 module _ (t : List ℕ) (v : Value) (k : ℕ) (p : k ≡ place v) where
-  pub free_read : (r : Bool) (m : ℕ) → k < length t → m ≡ mask v → r ≡ eqb (bit_and (get_or t k 0) m) 0 → r ≡ free t v
+  free_read : (r : Bool) (m : ℕ) → k < length t → m ≡ mask v → r ≡ eqb (bit_and (get_or t k 0) m) 0 → r ≡ free t v
   unfolding free
   free_read r m l q e = rw (← p, lt-ltb k (length t) l, ← q) e
 
-  pub free_past : length t ≤ k → false ≡ free t v
+  free_past : length t ≤ k → false ≡ free t v
   unfolding free
   free_past l = rw (← p, le-ltb k (length t) l)
+
+-- o is what the table holds at the value's entry, and r what the code says of it
+pub free_entry : (t : List ℕ) (v : Value) (k : ℕ) (o : Option (Bor ℕ)) {r : Bool} (P : Bor ℕ → Type 0) {Q : Bor ℕ → Type 0} → k ≡ place v
+    → MatchOption o (length t ≤ k) (λ x. (k < length t) × P x) → ((d : ℕ) → unwrap_or (option_map (λ (x : Bor ℕ). x.now) o) d ≡ get_or t k d)
+    → MatchOption o (r ≡ false) Q → ((x : Bor ℕ) → Q x → r ≡ eqb (bit_and x.now (mask v)) 0) → r ≡ free t v
+free_entry t v k None P p h g m more = m ∙ free_past t v k p h
+free_entry t v k (Some x) P p h g m more =
+    free_read t v k p _ (mask v) h.0 refl (more x m ∙ ap (λ (y : ℕ). eqb (bit_and y (mask v)) 0) (g 0))
 
 -- u, whose slot is free once that of v is taken
 module _ (t : List ℕ) (v u : Value) (h : free (marked t v) u ≡ true) where

@@ -13,9 +13,8 @@ use Rattle.definition.specs.Contents.{size}
 use Rattle.definition.specs.Values.{Value}
 use Rattle.definition.specs.Meaning.{phi_value, assigned, strict}
 use Rattle.definition.proofs.Runs.{run_then}
+use Rattle.std.specs.Prelude.{Option, Some, None}
 use Rattle.defined.specs.declared.value.Value.{Value as CValue}
-use Rattle.defined.specs.declared.value.Defined.{Defined}
-use Rattle.defined.specs.declared.value.Defined.TheVariants.{Nothing, One}
 use Rattle.defined.specs.Defined.{value_of, list_of}
 use Rattle.defined.proofs.Ranges.{singles}
 use Rattle.slots.specs.Slots.{place, mask, free, marked, Slots, slots, taken, takes}
@@ -43,11 +42,11 @@ module _ (t : List ℕ) (v : Value) where
   unfolding takes
   take_read w s h e = e ∙ ap (taken t) h
 
-pub take_none : (t : List ℕ) (d : Defined) → d ≡ Nothing → slots t true ≡ takes (slots t true) (list_of d)
+pub take_none : (t : List ℕ) (d : Option CValue) → d ≡ None → slots t true ≡ takes (slots t true) (list_of d)
 unfolding takes
 take_none t d e = rw e
 
-pub take_given : (t : List ℕ) (d : Defined) (v : CValue) (s : Slots) → d ≡ One v → s ≡ taken t (value_of v) → s ≡ takes (slots t true) (list_of d)
+pub take_given : (t : List ℕ) (d : Option CValue) (v : CValue) (s : Slots) → d ≡ Some v → s ≡ taken t (value_of v) → s ≡ takes (slots t true) (list_of d)
 take_given t d v s e h = rw e (take_read t (value_of v) (value_of v) s refl h)
 
 -- ---- runs of values

@@ -1,7 +1,6 @@
-use Prim.Native.Nat.{◌-◌}
 use mathlib.Core.Path.{refl, ap, ◌∙◌}
 use native.Mathlib.Omega.{arith}
-use Rattle.defined.specs.Defined.{value_of, hit, item_hits, item_value}
+use Rattle.defined.specs.Defined.{value_of, hit, item_hits}
 use Rattle.records.proofs.Below.{sum_start, sum_turn, sum_done}
 use Rattle.once.proofs.item_hits.Goals as goal
 

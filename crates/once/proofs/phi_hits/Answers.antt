@@ -1,7 +1,5 @@
-use Prim.Native.Nat.{◌-◌}
 use mathlib.Core.Path.{ap, ◌∙◌}
 use native.Mathlib.Omega.{arith}
-use Rattle.definition.specs.Meaning.{phi_value}
 use Rattle.defined.specs.Defined.{value_of, hit, phi_hits}
 use Rattle.records.proofs.Below.{sum_start, sum_turn, sum_done}
 use Rattle.once.proofs.phi_hits.Goals as goal
@@ -17,4 +15,4 @@ loop-i-preserved c = (sum_turn _ c.loop-i.invariant.0 (c.hit_of-sum.ensures.0 �
 
 pub returns : goal.returns
 unfolding phi_hits
-returns c = sum_done _ c.size_of-n.ensures c.loop-i.invariant.0 (omega arith)
+returns c = sum_done _ c.size_of-i-end.ensures c.loop-i.invariant.0 (omega arith)

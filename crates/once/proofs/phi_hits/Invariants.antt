@@ -1,5 +1,5 @@
 -- The sum counts the hits among the first i phis; it is at most i, so it does not overflow, and at the end i is their count.
-use Prim.Native.Nat.{◌≤◌, ◌-◌}
+use Prim.Native.Nat.{◌≤◌}
 use mathlib.Core.Path.{◌≡◌}
 use Rattle.definition.specs.Meaning.{phi_value}
 use Rattle.definition.specs.Lists.{sum_below}
@@ -7,7 +7,4 @@ use Rattle.defined.specs.Defined.{value_of, hit}
 use Rattle.once.proofs.phi_hits.Given as goal
 
 abbrev pub invariant-loop-i : goal.invariant-loop-i
-invariant-loop-i l = (l.sum ≡ sum_below l.i (λ j. hit (value_of l.v) (phi_value l.f j))) × (l.i ≤ l.n) × (l.sum ≤ l.i)
-
-abbrev pub decreases-loop-i : goal.decreases-loop-i
-decreases-loop-i l = l.n - l.i
+invariant-loop-i l = (l.sum ≡ sum_below l.i (λ j. hit (value_of l.v) (phi_value l.f j))) × (l.i ≤ l.i-end) × (l.sum ≤ l.i)

@@ -1,13 +1,13 @@
 -- What must be lone is the list of the phis, then that of the Assigns: where the first fails all fails, else the second decides.
-use mathlib.Core.Bool.{not}
-use mathlib.Core.Path.{ap, ◌∙◌}
+use Rattle.std.proofs.Common.{arith}
+use Rattle.std.proofs.lemmas.Bool.Decides.{nat_tests}
 use Rattle.defined.specs.Defined.{lone}
 use Rattle.defined.proofs.Defining.{once_is}
-use Rattle.defined.proofs.Tested.{strict_stop, strict_go}
+use Rattle.defined.proofs.Tested.{strict_parts}
 use Rattle.once.proofs.scan_once.Goals as goal
 
-pub returns-then-not-phis_lone : goal.returns-then-not-phis_lone
-returns-then-not-phis_lone c = strict_stop _ (lone c.args.f.now) _ c.phis_lone.ensures (ap not c.if-not-phis_lone.true) ∙ once_is _
+pub returns-then-phis_lone : goal.returns-then-phis_lone
+returns-then-phis_lone c = let e = strict_parts c.args.f.now (lone c.args.f.now) in let d = once_is c.args.f.now in grind (arith, nat_tests)
 
-pub returns : goal.returns
-returns c = strict_go _ (lone c.args.f.now) _ c.phis_lone.ensures _ (ap not c.if-not-phis_lone.false) c.assigns_lone.ensures ∙ once_is _
+pub returns-else-phis_lone : goal.returns-else-phis_lone
+returns-else-phis_lone c = let e = strict_parts c.args.f.now (lone c.args.f.now) in let d = once_is c.args.f.now in grind (arith, nat_tests)

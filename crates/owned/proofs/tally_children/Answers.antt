@@ -2,14 +2,13 @@ use Rattle.definition.proofs.Runs.{each_turn, each_end}
 use Rattle.owned.proofs.Tally.{mention_keeps, tally_none, tally_next}
 use native.Mathlib.Omega.{arith}
 use mathlib.Core.Path.{refl, ap, ◌∙◌}
-use Prim.Native.Nat.{◌-◌}
 use Rattle.owned.specs.Tally.{mentioned, tally}
 use Rattle.mentions.specs.Named.{child_at}
 use Rattle.mentions.proofs.Naming.{names_start, children_are, count_few}
 use Rattle.owned.proofs.tally_children.Goals as goal
 
 pub loop-k-init : goal.loop-k-init
-loop-k-init c = (names_start (tally _) _ (children_are _ _) c.child_count-n.ensures, omega (arith, c.child_count-n.ensures, count_few c.args.f.now c.args.i), refl)
+loop-k-init c = (names_start (tally _) _ (children_are _ _) c.child_count-k-end.ensures, omega (arith, c.child_count-k-end.ensures, count_few c.args.f.now c.args.i), refl)
 
 pub loop-k-preserved : goal.loop-k-preserved
 loop-k-preserved c = let g = child_at c.args.f.now c.args.i in

@@ -10,7 +10,4 @@ use Rattle.mentions.specs.Named.{child_at}
 use Rattle.owned.proofs.tally_children.Given as goal
 
 abbrev pub invariant-loop-k : goal.invariant-loop-k
-invariant-loop-k l = (tally l.initial.table (children l.f l.i) ≡ tally l.table (map (child_at l.f l.i) (range l.k (l.n - l.k)))) × (l.n ≤ 2) × (length l.table ≡ length l.initial.table)
-
-abbrev pub decreases-loop-k : goal.decreases-loop-k
-decreases-loop-k l = l.n - l.k
+invariant-loop-k l = (tally l.initial.table (children l.f l.i) ≡ tally l.table (map (child_at l.f l.i) (range l.k (l.k-end - l.k)))) × (l.k-end ≤ 2) × (length l.table ≡ length l.initial.table)

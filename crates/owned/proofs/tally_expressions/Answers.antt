@@ -1,12 +1,11 @@
 use mathlib.Core.Path.{refl, ◌∙◌}
-use Prim.Native.Nat.{◌-◌}
 use Rattle.definition.proofs.Runs.{lists_turn, lists_end}
 use Rattle.owned.specs.Tally.{mentioned, tally}
 use Rattle.owned.proofs.Tally.{tally_none, tally_next, runs_start, tally_keeps}
 use Rattle.owned.proofs.tally_expressions.Goals as goal
 
 pub loop-i-init : goal.loop-i-init
-loop-i-init c = (runs_start _ _ _ _ c.size_of-n.ensures, refl)
+loop-i-init c = (runs_start _ _ _ _ c.size_of-i-end.ensures, refl)
 
 pub loop-i-preserved : goal.loop-i-preserved
 loop-i-preserved c = let inv = c.loop-i.invariant in

@@ -10,7 +10,4 @@ use Rattle.owned.specs.Tally.{tally}
 use Rattle.owned.proofs.tally_expressions.Given as goal
 
 abbrev pub invariant-loop-i : goal.invariant-loop-i
-invariant-loop-i l = (tally l.initial.table (gather (children l.f) (range 0 (size l.f expressions))) ≡ tally l.table (gather (children l.f) (range l.i (l.n - l.i)))) × (length l.table ≡ length l.initial.table)
-
-abbrev pub decreases-loop-i : goal.decreases-loop-i
-decreases-loop-i l = l.n - l.i
+invariant-loop-i l = (tally l.initial.table (gather (children l.f) (range 0 (size l.f expressions))) ≡ tally l.table (gather (children l.f) (range l.i (l.i-end - l.i)))) × (length l.table ≡ length l.initial.table)

@@ -2,14 +2,13 @@ use Rattle.definition.proofs.Runs.{each_turn, each_end}
 use Rattle.owned.proofs.Tally.{mention_keeps, tally_none, tally_next}
 use native.Mathlib.Omega.{arith}
 use mathlib.Core.Path.{refl, ap, ◌∙◌}
-use Prim.Native.Nat.{◌-◌}
 use Rattle.owned.specs.Tally.{mentioned, tally}
 use Rattle.mentions.specs.Named.{root_at}
 use Rattle.mentions.proofs.Naming.{names_start, roots_are}
 use Rattle.owned.proofs.tally_roots.Goals as goal
 
 pub loop-k-init : goal.loop-k-init
-loop-k-init c = (names_start (tally _) _ (roots_are _ _ _ c.requires.first_value) c.root_count-n.ensures, c.root_count-n.ensures, refl)
+loop-k-init c = (names_start (tally _) _ (roots_are _ _ _ c.requires.first_value) c.root_count-k-end.ensures, c.root_count-k-end.ensures, refl)
 
 pub root_at-requires : goal.root_at-requires
 root_at-requires c = record { k_bound = omega arith; i_bound = c.requires.i_bound }

@@ -10,7 +10,4 @@ use Rattle.mentions.specs.Named.{root_at, root_count}
 use Rattle.owned.proofs.tally_roots.Given as goal
 
 abbrev pub invariant-loop-k : goal.invariant-loop-k
-invariant-loop-k l = (tally l.initial.table (roots l.f l.i) ≡ tally l.table (map (root_at l.f l.i l.first) (range l.k (l.n - l.k)))) × (l.n ≡ root_count l.f l.i) × (length l.table ≡ length l.initial.table)
-
-abbrev pub decreases-loop-k : goal.decreases-loop-k
-decreases-loop-k l = l.n - l.k
+invariant-loop-k l = (tally l.initial.table (roots l.f l.i) ≡ tally l.table (map (root_at l.f l.i l.first) (range l.k (l.k-end - l.k)))) × (l.k-end ≡ root_count l.f l.i) × (length l.table ≡ length l.initial.table)

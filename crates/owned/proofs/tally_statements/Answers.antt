@@ -1,6 +1,5 @@
 use native.Mathlib.Omega.{arith}
 use mathlib.Core.Path.{refl, ◌∙◌}
-use Prim.Native.Nat.{◌-◌}
 use Rattle.definition.proofs.Runs.{lists_turn, lists_end}
 use Rattle.owned.specs.Tally.{mentioned, tally}
 use Rattle.owned.proofs.Tally.{tally_none, tally_next, runs_start, tally_keeps}
@@ -8,7 +7,7 @@ use Rattle.records.proofs.Items.{first_start, first_turn, items_fit, exprs_fit}
 use Rattle.owned.proofs.tally_statements.Goals as goal
 
 pub loop-i-init : goal.loop-i-init
-loop-i-init c = (runs_start _ _ _ _ c.size_of-n.ensures, first_start _, c.size_of-n.ensures, refl)
+loop-i-init c = (runs_start _ _ _ _ c.size_of-i-end.ensures, first_start _, c.size_of-i-end.ensures, refl)
 
 pub tally_roots-requires : goal.tally_roots-requires
 tally_roots-requires c = let inv = c.loop-i.invariant in record { first_value = inv.1; i_bound = omega (arith, exprs_fit _ c.requires _ inv.2 c.loop-i-test.true inv.1) }

@@ -11,7 +11,4 @@ use Rattle.owned.specs.Tally.{tally}
 use Rattle.owned.proofs.tally_statements.Given as goal
 
 abbrev pub invariant-loop-i : goal.invariant-loop-i
-invariant-loop-i l = (tally l.initial.table (gather (roots l.f) (range 0 (size l.f statements))) ≡ tally l.table (gather (roots l.f) (range l.i (l.n - l.i)))) × (l.first ≡ first_item l.f l.i) × (l.n ≡ size l.f statements) × (length l.table ≡ length l.initial.table)
-
-abbrev pub decreases-loop-i : goal.decreases-loop-i
-decreases-loop-i l = l.n - l.i
+invariant-loop-i l = (tally l.initial.table (gather (roots l.f) (range 0 (size l.f statements))) ≡ tally l.table (gather (roots l.f) (range l.i (l.i-end - l.i)))) × (l.first ≡ first_item l.f l.i) × (l.i-end ≡ size l.f statements) × (length l.table ≡ length l.initial.table)

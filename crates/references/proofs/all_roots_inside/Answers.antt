@@ -1,14 +1,12 @@
 use mathlib.Core.Path.{ap}
 use native.Mathlib.Omega.{arith}
-use mathlib.Core.Bool.{true, not}
-use Prim.Native.Nat.{◌-◌}
-use Rattle.definition.specs.References.{roots_inside}
+use mathlib.Core.Bool.{not}
 use Rattle.records.proofs.Items.{first_start, first_turn, items_fit, exprs_fit}
 use Rattle.records.proofs.Below.{all_start, all_turn, all_fail, all_done}
 use Rattle.references.proofs.all_roots_inside.Goals as goal
 
 pub loop-i-init : goal.loop-i-init
-loop-i-init c = (all_start _, first_start _, c.size_of-n.ensures, omega arith)
+loop-i-init c = (all_start _, first_start _, c.size_of-i-end.ensures, omega arith)
 
 pub roots_inside-requires : goal.roots_inside-requires
 roots_inside-requires c = let inv = c.loop-i.invariant in record { first_value = inv.1; i_bound = omega (arith, exprs_fit _ c.requires _ inv.2 c.loop-i-test.true inv.1) }

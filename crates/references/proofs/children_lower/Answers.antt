@@ -1,18 +1,20 @@
+use mathlib.Core.Path.{◌∙◌}
+use Prim.Native.Nat.{ℕ, ◌≤◌}
 use native.Mathlib.Omega.{arith}
-use mathlib.Core.Path.{◌∙◌, sym}
-use Prim.Native.Nat.{◌-◌}
+use Rattle.std.proofs.Common.{rules}
+use Rattle.std.proofs.iter.Serving.{serving}
+use borrow.Author.Tests.{tests}
+use lib.Dec.{ltb}
 use Rattle.mentions.specs.Named.{child_at}
-use Rattle.mentions.proofs.Naming.{lower_start, count_few, below_turn, below_fail, below_end}
+use Rattle.mentions.proofs.Naming.{count_few}
+use Rattle.records.proofs.Below.{all_upto}
+use Rattle.references.proofs.Named.{lower_is}
 use Rattle.references.proofs.children_lower.Goals as goal
 
-pub loop-k-init : goal.loop-k-init
-loop-k-init c = (lower_start _ _ _ c.child_count-n.ensures, omega (arith, c.child_count-n.ensures, count_few c.args.f.now c.args.i))
-
-pub returns-then-child_at-i : goal.returns-then-child_at-i
-returns-then-child_at-i c = below_fail _ _ _ _ _ c.loop-k-test.true c.child_at.ensures (omega arith) ∙ sym c.loop-k.invariant.0
-
-pub loop-k-preserved : goal.loop-k-preserved
-loop-k-preserved c = (c.loop-k.invariant.0 ∙ below_turn _ _ _ _ _ c.loop-k-test.true c.child_at.ensures (omega arith), omega arith)
+pub all-requires-clause-callable : goal.all-requires-clause-callable
+all-requires-clause-callable c = let h : c.child_count.result ≤ 2 = omega (arith, c.child_count.ensures, count_few c.args.f.now c.args.i) in grind (serving, h)
 
 pub returns : goal.returns
-returns c = below_end _ _ _ _ (omega arith) ∙ sym c.loop-k.invariant.0
+returns c =
+    all_upto (λ (k : ℕ). ltb (child_at c.args.f.now c.args.i k) c.args.i) c.child_count.result c.all.ensures.ran (cc) (λ x b q k. search (rules, tests))
+    ∙ lower_is _ _ _ c.child_count.ensures

@@ -4,7 +4,9 @@ use mathlib.Core.Bool.{not}
 use mathlib.Core.Path.{ap, sym, ◌∙◌}
 use native.Mathlib.Omega.{arith}
 use lib.ListN.{length}
-use Rattle.slots.proofs.Taking.{take_zero, take_clash, take_slot}
+use Rattle.std.proofs.lemmas.Bool.Decides.{nat_tests}
+use Rattle.slots.specs.Slots.{taken}
+use Rattle.slots.proofs.Taking.{take_slot}
 use Rattle.slots.proofs.Bits.{free_inside}
 use Rattle.slots.proofs.take.Goals as goal
 use Rattle.slots.proofs.take.Goals.{After-place_of-k}
@@ -14,19 +16,14 @@ known : (c : After-place_of-k) → c.place_of-k.result < length c.args.table.now
 known c = free_inside _ _ _ c.place_of-k.ensures (sym c.is_free.ensures ∙ c.if-not-is_free.false)
 
 pub returns-then-v-eq0 : goal.returns-then-v-eq0
-returns-then-v-eq0 c = take_zero _ _ c.if-v-eq0.true
-
-pub returns-then-not-is_free : goal.returns-then-not-is_free
-returns-then-not-is_free c = take_clash _ _ c.if-v-eq0.false _ c.is_free.ensures (ap not c.if-not-is_free.true)
+unfolding taken
+returns-then-v-eq0 c = grind (arith, nat_tests)
 
 pub offset_bounds-table-k : goal.offset_bounds-table-k
 offset_bounds-table-k c = omega (arith, known (goal.at.offset_bounds-table-k c).After-place_of-k)
 
 pub bounds-table-k : goal.bounds-table-k
 bounds-table-k c = known (goal.at.bounds-table-k c).After-place_of-k
-
-pub offset_bounds-table-k-2 : goal.offset_bounds-table-k-2
-offset_bounds-table-k-2 c = omega (arith, known (goal.at.offset_bounds-table-k-2 c).After-place_of-k)
 
 pub bounds-table-k-2 : goal.bounds-table-k-2
 bounds-table-k-2 c = known (goal.at.bounds-table-k-2 c).After-place_of-k

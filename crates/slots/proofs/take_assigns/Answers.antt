@@ -1,4 +1,3 @@
-use Prim.Native.Nat.{◌-◌}
 use mathlib.Core.Path.{refl, ap, ◌∙◌}
 use mathlib.Core.Bool.{true, not}
 use native.Mathlib.Omega.{arith}
@@ -8,7 +7,7 @@ use Rattle.slots.proofs.Taking.{runs_start, runs_turn, runs_stop, runs_end}
 use Rattle.slots.proofs.take_assigns.Goals as goal
 
 pub loop-i-init : goal.loop-i-init
-loop-i-init c = (runs_start (assigned c.args.f.now) _ _ _ _ c.size_of-n.ensures refl, omega arith, refl)
+loop-i-init c = (runs_start (assigned c.args.f.now) _ _ _ _ c.size_of-i-end.ensures refl, omega arith, refl)
 
 pub returns-then-not-take_defined : goal.returns-then-not-take_defined
 returns-then-not-take_defined c = runs_stop (assigned c.args.f.now) _ _ _ _ c.loop-i.invariant.0 _ _ c.loop-i-test.true (c.take_defined.ensures ∙ ap (takes (slots c.loop-i.table true)) c.assigned_by.ensures) (ap not c.if-not-take_defined.true)

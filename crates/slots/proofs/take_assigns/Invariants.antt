@@ -11,7 +11,4 @@ use Rattle.slots.specs.Slots.{slots, takes}
 use Rattle.slots.proofs.take_assigns.Given as goal
 
 abbrev pub invariant-loop-i : goal.invariant-loop-i
-invariant-loop-i l = (takes (slots l.initial.table true) (gather (assigned l.f) (range 0 (size l.f statements))) ≡ takes (slots l.table true) (gather (assigned l.f) (range l.i (l.n - l.i)))) × (l.i ≤ l.n) × (length l.table ≡ length l.initial.table)
-
-abbrev pub decreases-loop-i : goal.decreases-loop-i
-decreases-loop-i l = l.n - l.i
+invariant-loop-i l = (takes (slots l.initial.table true) (gather (assigned l.f) (range 0 (size l.f statements))) ≡ takes (slots l.table true) (gather (assigned l.f) (range l.i (l.i-end - l.i)))) × (l.i ≤ l.i-end) × (length l.table ≡ length l.initial.table)

@@ -2,8 +2,8 @@
 use Rattle.slots.proofs.Taking.{take_none, take_given}
 use Rattle.slots.proofs.take_defined.Goals as goal
 
-pub returns-in-Nothing : goal.returns-in-Nothing
-returns-in-Nothing c = take_none _ c.args.d (cc)
+pub returns-in-None : goal.returns-in-None
+returns-in-None c = take_none _ c.args.d (cc)
 
-pub returns-in-One : goal.returns-in-One
-returns-in-One c = take_given _ c.args.d c.in-One.v _ (cc) c.take.ensures
+pub returns-in-Some : goal.returns-in-Some
+returns-in-Some c = take_given _ c.args.d c.in-Some.v _ (cc) c.take.ensures

@@ -1,19 +1,12 @@
-use mathlib.Core.Path.{ap}
-use Prim.Native.Nat.{◌-◌}
-use mathlib.Core.Bool.{true, not}
-use native.Mathlib.Omega.{arith}
-use Rattle.meaning.proofs.Apart.{key_new, keys_new}
-use Rattle.records.proofs.Below.{all_start, all_turn, all_fail, all_done}
+-- Each key is none of those before it: that no key stands twice.
+use mathlib.Core.Path.{sym, ◌∙◌}
+use Rattle.std.proofs.Common.{rules}
+use Rattle.records.proofs.Below.{all_upto}
+use Rattle.meaning.proofs.Twice.{distinct_below, new_among, is_new}
 use Rattle.meaning.proofs.distinct.keys_distinct.Goals as goal
 
-pub loop-i-init : goal.loop-i-init
-loop-i-init c = (all_start _, c.key_count-n.ensures, omega arith)
-
-pub returns-then-not-key_new : goal.returns-then-not-key_new
-returns-then-not-key_new c = rw keys_new (all_fail _ c.loop-i.invariant.1 c.key_new.ensures c.loop-i-test.true (ap not c.if-not-key_new.true))
-
-pub loop-i-preserved : goal.loop-i-preserved
-loop-i-preserved c = (all_turn _ c.key_new.ensures c.loop-i.invariant.0 (ap not c.if-not-key_new.false), c.loop-i.invariant.1, omega arith)
-
 pub returns : goal.returns
-returns c = rw keys_new (all_done _ c.loop-i.invariant.1 c.loop-i.invariant.0 (omega arith))
+returns g c = record {
+  says = λ h told.
+      all_upto (is_new h) c.args.n c.all.ensures.ran (cc) (λ x b q k. (search rules, search (rules, new_among h told))) ∙ sym (distinct_below h c.args.n);
+}

@@ -1,5 +1,4 @@
-use Prim.Native.Nat.{◌-◌}
-use mathlib.Core.Bool.{true, not}
+use mathlib.Core.Bool.{not}
 use mathlib.Core.Path.{ap, sym, ◌∙◌}
 use native.Mathlib.Omega.{arith}
 use Rattle.records.proofs.Items.{first_start}
@@ -11,16 +10,16 @@ pub loop-i-init : goal.loop-i-init
 loop-i-init c = (all_start _, omega arith, first_start _)
 
 pub loose_named_at-requires : goal.loose_named_at-requires
-loose_named_at-requires c = (c.requires, omega (arith, c.size_of-n.ensures), c.loop-i.invariant.2)
+loose_named_at-requires c = (c.requires, omega (arith, c.size_of-i-end.ensures), c.loop-i.invariant.2)
 
 pub returns-then-not-loose_named_at : goal.returns-then-not-loose_named_at
-returns-then-not-loose_named_at c = all_fail _ c.size_of-n.ensures c.loose_named_at.ensures c.loop-i-test.true (ap not c.if-not-loose_named_at.true) ∙ sym (loose_named_lem _)
+returns-then-not-loose_named_at c = all_fail _ c.size_of-i-end.ensures c.loose_named_at.ensures c.loop-i-test.true (ap not c.if-not-loose_named_at.true) ∙ sym (loose_named_lem _)
 
 pub next_item-at-requires : goal.next_item-at-requires
-next_item-at-requires c = (c.requires, omega (arith, c.size_of-n.ensures), c.loop-i.invariant.2)
+next_item-at-requires c = (c.requires, omega (arith, c.size_of-i-end.ensures), c.loop-i.invariant.2)
 
 pub loop-i-preserved : goal.loop-i-preserved
 loop-i-preserved c = (all_turn _ c.loose_named_at.ensures c.loop-i.invariant.0 (ap not c.if-not-loose_named_at.false), omega arith, c.next_item-at.ensures)
 
 pub returns : goal.returns
-returns c = all_done _ c.size_of-n.ensures c.loop-i.invariant.0 (omega arith) ∙ sym (loose_named_lem _)
+returns c = all_done _ c.size_of-i-end.ensures c.loop-i.invariant.0 (omega arith) ∙ sym (loose_named_lem _)

@@ -2,8 +2,8 @@
 use Rattle.naming.proofs.Walking.{defined_none, defined_one}
 use Rattle.naming.proofs.statements.name_defined.Goals as goal
 
-pub returns-in-Nothing : goal.returns-in-Nothing
-returns-in-Nothing c = defined_none _ _ _ c.args.d (cc)
+pub returns-in-None : goal.returns-in-None
+returns-in-None c = defined_none _ _ _ c.args.d (cc)
 
-pub returns-in-One : goal.returns-in-One
-returns-in-One c = defined_one _ _ _ c.args.d _ c.in-One.v (cc) c.name_key.ensures
+pub returns-in-Some : goal.returns-in-Some
+returns-in-Some c = defined_one _ _ _ c.args.d _ c.in-Some.v (cc) c.name_key.ensures
