@@ -1,14 +1,9 @@
 -- What every function over stack offsets is given: a file whose owners' counts come out, where its places are, and the number of each place's value.
-use Rattle.std.specs.Prelude.{◌≡◌, true, List, ℕ, ◌≤◌, length, get_or}
-use Rattle.std.proofs.Common.{Fits, w8}
+use Rattle.std.specs.Prelude.{◌≡◌, true, List, ℕ, ◌≤◌, length}
 use Rattle.definition.specs.Shape.{owned}
 use Rattle.places.specs.declared.Places.{Places}
 use Rattle.places.specs.Keys.{places_of}
 use Rattle.values.specs.Tables.{numbered}
-
--- what a file consists of
-abbrev pub Bytes : List ℕ → Type 0
-Bytes f = (i : ℕ) → Fits w8 (get_or f i 0)
 
 pub record Ground (f numbers : List ℕ) (places : Places) : Type 0 where
   pub counts : owned f ≡ true

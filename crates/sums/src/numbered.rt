@@ -1,5 +1,6 @@
 // A file whose values have numbers: what every function over stack offsets reads.
-ghost use Rattle.sums.specs.Ground.{Bytes, Ground};
+ghost use Rattle.records.specs.Bytes.{Bytes};
+ghost use Rattle.sums.specs.Ground.{Ground};
 
 use places::Places;
 
