@@ -78,7 +78,6 @@ module _ (f ks ns loads live phi readers : List ℕ) (s : Shared f ks ns loads l
     times = s.times;
     flows = s.flows;
     reader = s.last;
-    width = length loads;
     loaded = s.loaded;
   }
 

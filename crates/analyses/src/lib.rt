@@ -4,6 +4,7 @@
 ghost use Rattle.std.specs.Prelude.{length};
 ghost use Rattle.analyses.specs.Tables.{Unnumbered, Valued, Before, ReadAs, Shared, Unplaced, Placed, Nameable, Nameless, Named};
 
+use inline::tables::Tables;
 use names::entry::entry_reads;
 use naming::naming;
 use reads::{live_reads, phi_reads};
@@ -45,23 +46,31 @@ pub fn read_tables(
 }
 
 // The classes of values, and what is written in place.
-pub fn variables(
+pub fn variables<'a>(
     roots: &mut [u32],
     places: &mut [u32],
-    f: &[u8],
+    f: &'a [u8],
     keys: &[u64],
-    numbers: &[u32],
-    loads: &[u32],
-    live: &[u32],
-    phi: &[u32],
-    readers: &[u32],
+    numbers: &'a [u32],
+    loads: &'a [u32],
+    live: &'a [u32],
+    phi: &'a [u32],
+    readers: &'a [u32],
 )
     requires shared { Shared f.now keys.now numbers.now loads.now live.now phi.now readers.now }
     requires unplaced { Unplaced (length numbers.now) roots.old places.old }
     ensures { Placed f.now (length numbers.now) roots.new places.new }
 {
     classes::classes(roots, f, keys, numbers);
-    inline::inline(places, f, numbers, live, phi, readers, loads);
+    let of = Tables {
+        f,
+        numbers,
+        live,
+        phi,
+        readers,
+        loads,
+    };
+    inline::inline(places, &of);
 }
 
 // The names, which need both. Seen is scratch, and is left as zeros.

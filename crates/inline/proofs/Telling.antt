@@ -149,7 +149,7 @@ module _ (f numbers live phi readers loads : List ℕ) (told : Told f numbers li
           let r : at readers number ≡ last_reader f (target f i) = tells s.assigns (last_reader f) readers told.reader in
           let n : i + 1 + (end - (i + 1)) ≡ end = omega arith in
           let c : count (eqv (target f i)) (reads (read E f)) ≡ 1 = sym (tells s.assigns (λ v. count (eqv v) (reads (read E f))) live (told.times E)) ∙ s.once in
-          rw (loads_is E f loads told.width (stmt_field f i 2) (told.loaded E), r)
+          rw (loads_is E f loads (length loads) (stmt_field f i 2) (told.loaded E), r)
           (search_is E f (all_trees E f) (target f i) (last_reader f (target f i)) (one_reader E f told.own (target f i) c)
           (has_load (source E f i)) (end - (i + 1)) (i + 1) (omega arith)
           ∙ ap (reached f (last_reader f (target f i)) (has_load (source E f i)) (i + 1)) n)

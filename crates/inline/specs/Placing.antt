@@ -57,5 +57,4 @@ pub record Told (f numbers live phi readers loads : List ℕ) : Type 0 where
   pub times : LiveReads f (length numbers) live
   pub flows : PhiReads f (length numbers) phi
   pub reader : readers ≡ table f (length numbers) (last_reader f)
-  pub width : ℕ
-  pub loaded : Loads f width loads
+  pub loaded : Loads f (length loads) loads

@@ -9,25 +9,23 @@ ghost use Rattle.places.specs.Keys.{places_of};
 ghost use Rattle.values.specs.Tables.{table};
 ghost use Rattle.uses.specs.Orders.{Ordered};
 ghost use Rattle.reads.specs.Counts.{visit, slots, between};
-ghost use Rattle.sums.specs.Ground.{Ground};
 ghost use Rattle.marks.specs.Reading.{classed, reading, ReadRoots};
 
 use crate::saves::is_save;
-use places::{Places, places_of};
 use records::contents::{STATEMENTS, size_of};
 use records::owners::is_dead;
 use slices::{get, put};
+use sums::numbered::Numbered;
 
 // Does statement i read nothing that counts: it is dead, or a save.
-fn passed_over(offsets: &[u64], f: &[u8], t: u32, numbers: &[u32], places: Places, i: u32) -> bool
-    requires { Ground f.now numbers.now places }
-    ensures { (E : Edition) (k : List Known) → text E ≡ t → offsets.now ≡ table f.now (length numbers.now) (look k)
-        → result ≡ (marked f.now i 1 || is_save k (kind_at E f.now (all_trees E f.now) i)) }
+fn passed_over(offsets: &[u64], of: &Numbered<'_>, i: u32) -> bool
+    ensures { (E : Edition) (k : List Known) → text E ≡ of.now.t → offsets.now ≡ table of.now.f.now (length of.now.numbers.now) (look k)
+        → result ≡ (marked of.now.f.now i 1 || is_save k (kind_at E of.now.f.now (all_trees E of.now.f.now) i)) }
 {
-    if is_dead(f, i) {
+    if is_dead(of.f, i) {
         return true;
     }
-    is_save(offsets, f, t, numbers, places, i)
+    is_save(offsets, of, i)
 }
 
 // 1 at the roots of what the nodes from a to b read, whose places begin at `base`.
@@ -53,49 +51,41 @@ fn mark_run(
 // What statement i reads.
 fn mark_stmt(
     tab: &mut [u32],
-    f: &[u8],
-    t: u32,
-    numbers: &[u32],
+    of: &Numbered<'_>,
     offsets: &[u64],
     roots: &[u32],
     order: &[u32],
     starts: &[u32],
-    places: Places,
     i: u32,
 )
-    requires ground { Ground f.now numbers.now places }
-    requires ordered { Ordered f.now (length order.now) (length starts.now) order.now starts.now }
-    requires i_bound { i < size f.now statements }
-    ensures { (E : Edition) (k : List Known) → text E ≡ t → offsets.now ≡ table f.now (length numbers.now) (look k)
-        → tab.new ≡ visit (classed roots.now) tab.old (slots numbers.now (places_of f.now).exprs (reading E f.now k i)) }
+    requires ordered { Ordered of.now.f.now (length order.now) (length starts.now) order.now starts.now }
+    requires i_bound { i < size of.now.f.now statements }
+    ensures { (E : Edition) (k : List Known) → text E ≡ of.now.t → offsets.now ≡ table of.now.f.now (length of.now.numbers.now) (look k)
+        → tab.new ≡ visit (classed roots.now) tab.old (slots of.now.numbers.now (places_of of.now.f.now).exprs (reading E of.now.f.now k i)) }
 {
-    if passed_over(offsets, f, t, numbers, places, i) {
+    if passed_over(offsets, of, i) {
         return;
     }
     let a = get(starts, i as usize);
     let b = get(starts, i as usize + 1);
-    mark_run(tab, numbers, roots, order, places.exprs, a, b);
+    mark_run(tab, of.numbers, roots, order, of.places.exprs, a, b);
 }
 
 // 1 at the root of each class of which some value is really read.
 pub fn read_roots(
     tab: &mut [u32],
-    f: &[u8],
-    t: u32,
-    numbers: &[u32],
+    of: &Numbered<'_>,
     offsets: &[u64],
     roots: &[u32],
     order: &[u32],
     starts: &[u32],
 )
-    requires ground { Ground f.now numbers.now (places_of f.now) }
-    requires ordered { Ordered f.now (length order.now) (length starts.now) order.now starts.now }
-    requires tab_value { tab.old ≡ replicate (length numbers.now) 0 }
-    ensures { ReadRoots f.now t (length numbers.now) offsets.now roots.now tab.new }
+    requires ordered { Ordered of.now.f.now (length order.now) (length starts.now) order.now starts.now }
+    requires tab_value { tab.old ≡ replicate (length of.now.numbers.now) 0 }
+    ensures { ReadRoots of.now.f.now of.now.t (length of.now.numbers.now) offsets.now roots.now tab.new }
 {
-    let places = places_of(f);
-    let n = size_of(f, STATEMENTS);
+    let n = size_of(of.f, STATEMENTS);
     for i in 0..n {
-        mark_stmt(tab, f, t, numbers, offsets, roots, order, starts, places, i);
+        mark_stmt(tab, of, offsets, roots, order, starts, i);
     }
 }

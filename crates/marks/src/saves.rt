@@ -6,13 +6,12 @@ ghost use Rattle.definition.specs.Read.{kind_at, all_trees};
 ghost use Rattle.definition.specs.Offsets.{Known, look};
 ghost use Rattle.definition.specs.Blocks.{is_save};
 ghost use Rattle.values.specs.Tables.{table};
-ghost use Rattle.sums.specs.Ground.{Ground};
 ghost use Rattle.marks.specs.Reading.{saved_at};
 
-use places::Places;
 use records::contents::{EXPRESSIONS, expr_word, size_of};
 use records::owners::{STORE, USE, stmt_field, stmt_kind};
 use sums::address::stack_off;
+use sums::numbered::Numbered;
 use text::registers::Register;
 
 // Whether expression n is a callee-saved register's entry value.
@@ -30,16 +29,15 @@ fn is_saved(f: &[u8], n: u32) -> bool
 }
 
 // Whether statement i is a save.
-pub fn is_save(offs: &[u64], f: &[u8], t: u32, numbers: &[u32], places: Places, i: u32) -> bool
-    requires { Ground f.now numbers.now places }
-    ensures { (E : Edition) (k : List Known) → text E ≡ t → offs.now ≡ table f.now (length numbers.now) (look k)
-        → result ≡ is_save k (kind_at E f.now (all_trees E f.now) i) }
+pub fn is_save(offs: &[u64], of: &Numbered<'_>, i: u32) -> bool
+    ensures { (E : Edition) (k : List Known) → text E ≡ of.now.t → offs.now ≡ table of.now.f.now (length of.now.numbers.now) (look k)
+        → result ≡ is_save k (kind_at E of.now.f.now (all_trees E of.now.f.now) i) }
 {
-    if stmt_kind(f, i) != STORE {
+    if stmt_kind(of.f, i) != STORE {
         return false;
     }
-    if is_saved(f, stmt_field(f, i, 2)) {
-        return stack_off(offs, f, t, numbers, places, stmt_field(f, i, 1)) != 0;
+    if is_saved(of.f, stmt_field(of.f, i, 2)) {
+        return stack_off(offs, of, stmt_field(of.f, i, 1)) != 0;
     }
     false
 }

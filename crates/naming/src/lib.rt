@@ -5,6 +5,7 @@ mod phis;
 mod position;
 mod runs;
 mod statements;
+mod tables;
 mod walk;
 
 ghost use Rattle.std.specs.Prelude.{◌≡◌, ◌<◌, length, replicate};
@@ -13,8 +14,10 @@ ghost use Rattle.naming.specs.Walk.{params_seen};
 ghost use Rattle.names.specs.Given.{Numbered};
 ghost use Rattle.naming.specs.Given.{NamesAll};
 
+use crate::tables::Tables;
 use crate::walk::name_blocks;
 use names::entry::params;
+use places::places_of;
 use slices::{get, put};
 use zeros::clear;
 
@@ -30,16 +33,16 @@ fn see_params(seen: &mut [u32], numbers: &[u32], roots: &[u32], n: u32)
 }
 
 // Also clears `seen` again.
-pub fn naming(
+pub fn naming<'a>(
     names: &mut [u32],
     seen: &mut [u32],
-    f: &[u8],
-    numbers: &[u32],
-    roots: &[u32],
-    places: &[u32],
+    f: &'a [u8],
+    numbers: &'a [u32],
+    roots: &'a [u32],
+    places: &'a [u32],
     entry: &[u32],
-    order: &[u32],
-    starts: &[u32],
+    order: &'a [u32],
+    starts: &'a [u32],
 )
     requires numbered { Numbered f.now numbers.now }
     requires ordered { Ordered f.now (length order.now) (length starts.now) order.now starts.now }
@@ -49,6 +52,15 @@ pub fn naming(
 {
     let n = params(f, numbers, entry);
     see_params(seen, numbers, roots, n);
-    name_blocks(names, seen, f, numbers, roots, places, order, starts);
+    let of = Tables {
+        f,
+        numbers,
+        roots,
+        away: places,
+        order,
+        starts,
+        at: places_of(f),
+    };
+    name_blocks(names, seen, &of);
     clear(seen);
 }

@@ -6,6 +6,7 @@ ghost use Rattle.places.specs.Keys.{places_of};
 ghost use Rattle.names.specs.Spots.{spot, known, state};
 ghost use Rattle.naming.specs.Walk.{walked, run_spot};
 
+use crate::tables::Tables;
 use defined::value::{Value, item_value};
 use names::key::name_key;
 use places::Places;
@@ -68,26 +69,22 @@ fn mention_at(f: &[u8], order: &[u32], at: Places, run: Run, k: u32) -> Mention
 pub fn name_run(
     names: &mut [u32],
     seen: &mut [u32],
-    f: &[u8],
-    numbers: &[u32],
-    roots: &[u32],
-    away: &[u32],
-    order: &[u32],
-    at: Places,
+    of: &Tables<'_>,
     run: Run,
     a: u32,
     b: u32,
     next: u32,
 ) -> u32
-    requires { at ≡ places_of f.now }
     ensures { state names.new seen.new result
-        ≡ walked (known numbers.now roots.now away.now) (state names.old seen.old next)
-        (map (run_spot f.now order.now run) (range a (b - a))) }
+        ≡ walked (known of.now.numbers.now of.now.roots.now of.now.away.now) (state names.old seen.old next)
+        (map (run_spot of.now.f.now of.now.order.now run) (range a (b - a))) }
 {
     let mut next = next;
     for k in a..b {
-        let m = mention_at(f, order, at, run, k);
-        next = name_key(names, seen, numbers, roots, away, m.place, m.value, next);
+        let m = mention_at(of.f, of.order, of.at, run, k);
+        next = name_key(
+            names, seen, of.numbers, of.roots, of.away, m.place, m.value, next,
+        );
     }
     next
 }

@@ -12,9 +12,9 @@ ghost use Rattle.naming.specs.Given.{Laid, Went, standing};
 
 use crate::position::Walk;
 use crate::runs::{Run, name_run};
+use crate::tables::Tables;
 use defined::value::{Value, assigned_by, next_item, returned_by};
 use names::key::name_key;
-use places::Places;
 use records::owners::{expr_items, is_dead, value_items};
 use slices::get;
 
@@ -22,131 +22,67 @@ use slices::get;
 fn name_defined(
     names: &mut [u32],
     seen: &mut [u32],
-    numbers: &[u32],
-    roots: &[u32],
-    away: &[u32],
+    of: &Tables<'_>,
     p: usize,
     d: Option<Value>,
     next: u32,
 ) -> u32
     ensures { state names.new seen.new result
-        ≡ walked (known numbers.now roots.now away.now) (state names.old seen.old next)
+        ≡ walked (known of.now.numbers.now of.now.roots.now of.now.away.now) (state names.old seen.old next)
         (map (spot p) (list_of d)) }
 {
     match d {
         None => next,
-        Some(v) => name_key(names, seen, numbers, roots, away, p, v, next),
+        Some(v) => name_key(names, seen, of.numbers, of.roots, of.away, p, v, next),
     }
 }
 
-// What statement i defines by its fields; those of all statements stand from place `from` on.
-fn name_fields(
-    names: &mut [u32],
-    seen: &mut [u32],
-    f: &[u8],
-    numbers: &[u32],
-    roots: &[u32],
-    away: &[u32],
-    from: usize,
-    i: u32,
-    next: u32,
-) -> u32
-    requires { from ≡ (places_of f.now).stmts }
+// What statement i defines by its fields.
+fn name_fields(names: &mut [u32], seen: &mut [u32], of: &Tables<'_>, i: u32, next: u32) -> u32
     ensures { state names.new seen.new result
-        ≡ walked (known numbers.now roots.now away.now) (state names.old seen.old next)
-        (field_spots f.now i) }
+        ≡ walked (known of.now.numbers.now of.now.roots.now of.now.away.now) (state names.old seen.old next)
+        (field_spots of.now.f.now i) }
 {
-    let p = from + i as usize;
-    let d = assigned_by(f, i);
-    let next = name_defined(names, seen, numbers, roots, away, p, d, next);
-    let d = returned_by(f, i);
-    name_defined(names, seen, numbers, roots, away, p, d, next)
+    let p = of.at.stmts + i as usize;
+    let d = assigned_by(of.f, i);
+    let next = name_defined(names, seen, of, p, d, next);
+    let d = returned_by(of.f, i);
+    name_defined(names, seen, of, p, d, next)
 }
 
 // The next statement, where it is live.
-fn name_stmt(
-    names: &mut [u32],
-    seen: &mut [u32],
-    f: &[u8],
-    numbers: &[u32],
-    roots: &[u32],
-    away: &[u32],
-    order: &[u32],
-    starts: &[u32],
-    at: Places,
-    w: Walk,
-) -> u32
-    requires laid { Laid f.now at order.now starts.now }
-    requires stmt_bound { (w.stmt < size f.now statements) × (w.item ≡ first_item f.now w.stmt) }
+fn name_stmt(names: &mut [u32], seen: &mut [u32], of: &Tables<'_>, w: Walk) -> u32
+    requires { (w.stmt < size of.now.f.now statements) × (w.item ≡ first_item of.now.f.now w.stmt) }
     ensures { state names.new seen.new result
-        ≡ walked (known numbers.now roots.now away.now) (state names.old seen.old w.next)
-        (stmt_spots f.now w.stmt) }
+        ≡ walked (known of.now.numbers.now of.now.roots.now of.now.away.now) (state names.old seen.old w.next)
+        (stmt_spots of.now.f.now w.stmt) }
 {
     let i = w.stmt;
     let first = w.item;
     let next = w.next;
-    if is_dead(f, i) {
+    if is_dead(of.f, i) {
         return next;
     }
-    let next = name_fields(names, seen, f, numbers, roots, away, at.stmts, i, next);
-    let a = first + expr_items(f, i);
-    let b = a + value_items(f, i);
-    let next = name_run(
-        names,
-        seen,
-        f,
-        numbers,
-        roots,
-        away,
-        order,
-        at,
-        Run::Items,
-        a,
-        b,
-        next,
-    );
-    let x = get(starts, i as usize);
-    let y = get(starts, i as usize + 1);
-    name_run(
-        names,
-        seen,
-        f,
-        numbers,
-        roots,
-        away,
-        order,
-        at,
-        Run::Uses,
-        x,
-        y,
-        next,
-    )
+    let next = name_fields(names, seen, of, i, next);
+    let a = first + expr_items(of.f, i);
+    let b = a + value_items(of.f, i);
+    let next = name_run(names, seen, of, Run::Items, a, b, next);
+    let x = get(of.starts, i as usize);
+    let y = get(of.starts, i as usize + 1);
+    name_run(names, seen, of, Run::Uses, x, y, next)
 }
 
 // The next statements, up to b.
-pub fn name_stmts(
-    names: &mut [u32],
-    seen: &mut [u32],
-    f: &[u8],
-    numbers: &[u32],
-    roots: &[u32],
-    away: &[u32],
-    order: &[u32],
-    starts: &[u32],
-    at: Places,
-    b: u32,
-    w: Walk,
-) -> Walk
-    requires laid { Laid f.now at order.now starts.now }
-    requires stmt_le_b { (w.stmt ≤ b) × (b ≤ size f.now statements) × (w ≡ standing f.now w.phi w.stmt w.next) }
-    ensures { Went f.now (known numbers.now roots.now away.now)
+pub fn name_stmts(names: &mut [u32], seen: &mut [u32], of: &Tables<'_>, b: u32, w: Walk) -> Walk
+    requires { (w.stmt ≤ b) × (b ≤ size of.now.f.now statements) × (w ≡ standing of.now.f.now w.phi w.stmt w.next) }
+    ensures { Went of.now.f.now (known of.now.numbers.now of.now.roots.now of.now.away.now)
         names.old seen.old names.new seen.new w result w.phi b
-        (gather (stmt_spots f.now) (range w.stmt (b - w.stmt))) }
+        (gather (stmt_spots of.now.f.now) (range w.stmt (b - w.stmt))) }
 {
     let mut v = w;
     while v.stmt < b {
-        let next = name_stmt(names, seen, f, numbers, roots, away, order, starts, at, v);
-        let item = next_item(f, v.stmt, v.item);
+        let next = name_stmt(names, seen, of, v);
+        let item = next_item(of.f, v.stmt, v.item);
         let phi = v.phi;
         let stmt = v.stmt + 1;
         let input = v.input;

@@ -13,57 +13,30 @@ ghost use Rattle.naming.specs.Given.{Laid, Went, standing};
 use crate::phis::name_phis;
 use crate::position::Walk;
 use crate::statements::name_stmts;
-use places::{Places, places_of};
+use crate::tables::Tables;
 use records::contents::{BLOCKS, size_of};
 use records::owners::{block_phis, block_stmts};
 
 // Block b: its phis, then its statements.
-fn name_block(
-    names: &mut [u32],
-    seen: &mut [u32],
-    f: &[u8],
-    numbers: &[u32],
-    roots: &[u32],
-    away: &[u32],
-    order: &[u32],
-    starts: &[u32],
-    at: Places,
-    b: u32,
-    w: Walk,
-) -> Walk
-    requires laid { Laid f.now at order.now starts.now }
-    requires b_bound { (b < size f.now blocks) × (w ≡ standing f.now (first_phi f.now b) (first_stmt f.now b) w.next) }
-    ensures { Went f.now (known numbers.now roots.now away.now)
-        names.old seen.old names.new seen.new w result (first_phi f.now (b + 1)) (first_stmt f.now (b + 1))
-        (block_spots f.now b) }
+fn name_block(names: &mut [u32], seen: &mut [u32], of: &Tables<'_>, b: u32, w: Walk) -> Walk
+    requires { (b < size of.now.f.now blocks) × (w ≡ standing of.now.f.now (first_phi of.now.f.now b) (first_stmt of.now.f.now b) w.next) }
+    ensures { Went of.now.f.now (known of.now.numbers.now of.now.roots.now of.now.away.now)
+        names.old seen.old names.new seen.new w result (first_phi of.now.f.now (b + 1)) (first_stmt of.now.f.now (b + 1))
+        (block_spots of.now.f.now b) }
 {
-    let e = w.phi + block_phis(f, b);
-    let v = name_phis(names, seen, f, numbers, roots, away, order, at, e, w);
-    let e = v.stmt + block_stmts(f, b);
-    name_stmts(
-        names, seen, f, numbers, roots, away, order, starts, at, e, v,
-    )
+    let e = w.phi + block_phis(of.f, b);
+    let v = name_phis(names, seen, of, e, w);
+    let e = v.stmt + block_stmts(of.f, b);
+    name_stmts(names, seen, of, e, v)
 }
 
 // All blocks; the locals' numbers begin at 1.
-pub fn name_blocks(
-    names: &mut [u32],
-    seen: &mut [u32],
-    f: &[u8],
-    numbers: &[u32],
-    roots: &[u32],
-    away: &[u32],
-    order: &[u32],
-    starts: &[u32],
-) -> u32
-    requires f_value { owned f.now ≡ true }
-    requires ordered { Ordered f.now (length order.now) (length starts.now) order.now starts.now }
+pub fn name_blocks(names: &mut [u32], seen: &mut [u32], of: &Tables<'_>) -> u32
     ensures { state names.new seen.new result
-        ≡ walked (known numbers.now roots.now away.now) (state names.old seen.old 1)
-        (spots f.now) }
+        ≡ walked (known of.now.numbers.now of.now.roots.now of.now.away.now) (state names.old seen.old 1)
+        (spots of.now.f.now) }
 {
-    let p = places_of(f);
-    let n = size_of(f, BLOCKS);
+    let n = size_of(of.f, BLOCKS);
     let mut w = Walk {
         phi: 0,
         stmt: 0,
@@ -72,7 +45,7 @@ pub fn name_blocks(
         next: 1,
     };
     for b in 0..n {
-        w = name_block(names, seen, f, numbers, roots, away, order, starts, p, b, w);
+        w = name_block(names, seen, of, b, w);
     }
     w.next
 }

@@ -7,30 +7,28 @@ ghost use Rattle.definition.specs.Edition.{Edition, blocks};
 ghost use Rattle.definition.specs.Contents.{size, text};
 ghost use Rattle.definition.specs.Read.{read};
 ghost use Rattle.definition.specs.Offsets.{Known, look, closure, offsets};
-ghost use Rattle.places.specs.Keys.{places_of, keyed};
+ghost use Rattle.places.specs.Keys.{keyed};
 ghost use Rattle.values.specs.Tables.{first_of, table};
-ghost use Rattle.sums.specs.Ground.{Ground};
 ghost use Rattle.rounds.specs.Defs.{mine, defs_below};
 
-use places::{Places, places_of};
 use rounds::round_of;
 use slices::put;
+use sums::numbered::Numbered;
 
 // The key of RSP at entry, and its offset, which is 0.
 const ENTRY: u64 = 17179869185;
 
 const HALF: u64 = 9223372036854775808;
 
-fn close(tab: &mut [u64], f: &[u8], t: u32, numbers: &[u32], places: Places, own: bool)
-    requires ground { Ground f.now numbers.now places }
-    requires tab_len { length tab.old ≡ length numbers.now }
-    ensures { (E : Edition) (k : List Known) → text E ≡ t → tab.old ≡ table f.now (length numbers.now) (look k)
-        → tab.new ≡ table f.now (length numbers.now) (look (closure (mine own (defs_below E f.now (size f.now blocks))) k)) }
+fn close(tab: &mut [u64], of: &Numbered<'_>, own: bool)
+    requires tab_len { length tab.old ≡ length of.now.numbers.now }
+    ensures { (E : Edition) (k : List Known) → text E ≡ of.now.t → tab.old ≡ table of.now.f.now (length of.now.numbers.now) (look k)
+        → tab.new ≡ table of.now.f.now (length of.now.numbers.now) (look (closure (mine own (defs_below E of.now.f.now (size of.now.f.now blocks))) k)) }
 {
     // Rounds go on until one teaches nothing: how many there are, the file's definitions decide.
     let mut changed = true;
     while changed {
-        changed = round_of(tab, f, t, numbers, places, own);
+        changed = round_of(tab, of, own);
     }
 }
 
@@ -42,15 +40,13 @@ fn first_of(keys: &[u64], k: u64) -> usize
 }
 
 // The table of stack offsets.
-pub fn offsets(tab: &mut [u64], f: &[u8], t: u32, numbers: &[u32], keys: &[u64])
-    requires ground { Ground f.now numbers.now (places_of f.now) }
-    requires keys_value { keys.now ≡ keyed f.now (length numbers.now) }
-    requires tab_value { tab.old ≡ replicate (length numbers.now) 0 }
-    ensures { (E : Edition) → text E ≡ t
-        → tab.new ≡ table f.now (length numbers.now) (look (offsets (read E f.now))) }
+pub fn offsets(tab: &mut [u64], of: &Numbered<'_>, keys: &[u64])
+    requires keys_value { keys.now ≡ keyed of.now.f.now (length of.now.numbers.now) }
+    requires tab_value { tab.old ≡ replicate (length of.now.numbers.now) 0 }
+    ensures { (E : Edition) → text E ≡ of.now.t
+        → tab.new ≡ table of.now.f.now (length of.now.numbers.now) (look (offsets (read E of.now.f.now))) }
 {
-    let places = places_of(f);
     put(tab, first_of(keys, ENTRY), HALF);
-    close(tab, f, t, numbers, places, true);
-    close(tab, f, t, numbers, places, false);
+    close(tab, of, true);
+    close(tab, of, false);
 }

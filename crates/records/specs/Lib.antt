@@ -1,3 +1,4 @@
+pub mod Bytes
 pub mod Editions
 pub mod Kinds
 pub mod Options

@@ -3,17 +3,16 @@ ghost use Rattle.std.specs.Prelude.{◌≡◌, ◌+◌, ◌≤◌, ◌<◌, leng
 ghost use Rattle.definition.specs.Edition.{Edition, phis, statements};
 ghost use Rattle.definition.specs.Contents.{size, text};
 ghost use Rattle.definition.specs.Owners.{first_input};
-ghost use Rattle.sums.specs.Ground.{Ground};
 ghost use Rattle.sums.specs.Address.{value_at};
 ghost use Rattle.rounds.specs.Agreed.{agreed_by};
 ghost use Rattle.rounds.specs.Defs.{turn_of, mine, phi_defs, stmt_defs};
 ghost use Rattle.rounds.specs.Ran.{pass_of, learnt, Ran};
 
-use places::Places;
 use records::contents::phi_word;
 use records::owners::{ASSIGN, phi_inputs, stmt_field, stmt_kind};
 use slices::{get, put};
 use sums::address::stack_off;
+use sums::numbered::Numbered;
 use sums::reading::value_at;
 
 const RSP: u32 = 4;
@@ -55,56 +54,38 @@ fn is_turn(own: bool, reg: u32) -> bool
 }
 
 // Phi i, whose inputs begin at `first`.
-pub fn phi_step(
-    tab: &mut [u64],
-    f: &[u8],
-    numbers: &[u32],
-    places: Places,
-    own: bool,
-    i: u32,
-    first: u32,
-) -> bool
-    requires ground { Ground f.now numbers.now places }
-    requires tab_len { length tab.old ≡ length numbers.now }
-    requires i_bound { (i < size f.now phis) × (first ≡ first_input f.now i) }
-    ensures { Ran f.now (length numbers.now) (mine own (phi_defs f.now i 1)) tab.old tab.new result }
+pub fn phi_step(tab: &mut [u64], of: &Numbered<'_>, own: bool, i: u32, first: u32) -> bool
+    requires tab_len { length tab.old ≡ length of.now.numbers.now }
+    requires i_bound { (i < size of.now.f.now phis) × (first ≡ first_input of.now.f.now i) }
+    ensures { Ran of.now.f.now (length of.now.numbers.now) (mine own (phi_defs of.now.f.now i 1)) tab.old tab.new result }
 {
-    if !is_turn(own, phi_word(f, i, 0)) {
+    if !is_turn(own, phi_word(of.f, i, 0)) {
         return false;
     }
     let x = agreed(
         tab,
-        numbers,
-        places.inputs + first as usize,
-        phi_inputs(f, i),
+        of.numbers,
+        of.places.inputs + first as usize,
+        phi_inputs(of.f, i),
     );
-    let v = get(numbers, places.phis + i as usize);
+    let v = get(of.numbers, of.places.phis + i as usize);
     learn(tab, v, x)
 }
 
 // Statement i, if it is an Assign.
-pub fn stmt_step(
-    tab: &mut [u64],
-    f: &[u8],
-    t: u32,
-    numbers: &[u32],
-    places: Places,
-    own: bool,
-    i: u32,
-) -> bool
-    requires ground { Ground f.now numbers.now places }
-    requires tab_len { length tab.old ≡ length numbers.now }
-    requires i_bound { i < size f.now statements }
-    ensures { (E : Edition) → text E ≡ t
-        → Ran f.now (length numbers.now) (mine own (stmt_defs E f.now i 1)) tab.old tab.new result }
+pub fn stmt_step(tab: &mut [u64], of: &Numbered<'_>, own: bool, i: u32) -> bool
+    requires tab_len { length tab.old ≡ length of.now.numbers.now }
+    requires i_bound { i < size of.now.f.now statements }
+    ensures { (E : Edition) → text E ≡ of.now.t
+        → Ran of.now.f.now (length of.now.numbers.now) (mine own (stmt_defs E of.now.f.now i 1)) tab.old tab.new result }
 {
-    if stmt_kind(f, i) != ASSIGN {
+    if stmt_kind(of.f, i) != ASSIGN {
         return false;
     }
-    if !is_turn(own, stmt_field(f, i, 0)) {
+    if !is_turn(own, stmt_field(of.f, i, 0)) {
         return false;
     }
-    let x = stack_off(tab, f, t, numbers, places, stmt_field(f, i, 2));
-    let v = get(numbers, places.stmts + i as usize);
+    let x = stack_off(tab, of, stmt_field(of.f, i, 2));
+    let v = get(of.numbers, of.places.stmts + i as usize);
     learn(tab, v, x)
 }

@@ -5,11 +5,10 @@ ghost use Rattle.definition.specs.Contents.{text};
 ghost use Rattle.definition.specs.Read.{tree_at, all_trees};
 ghost use Rattle.definition.specs.Offsets.{Known, look, stack_off};
 ghost use Rattle.values.specs.Tables.{table};
-ghost use Rattle.sums.specs.Ground.{Ground};
 ghost use Rattle.sums.specs.Address.{value_at, address_at};
 
+use crate::numbered::Numbered;
 use crate::reading::{sum_at, value_at};
-use places::Places;
 use records::contents::{EXPRESSIONS, expr_word, size_of};
 use records::owners::{BIN, USE};
 
@@ -29,13 +28,12 @@ fn address_at(tab: &[u64], f: &[u8], t: u32, numbers: &[u32], exprs: usize, n: u
 }
 
 // The offset of expression n, 0 where none is known.
-pub fn stack_off(tab: &[u64], f: &[u8], t: u32, numbers: &[u32], places: Places, n: u32) -> u64
-    requires { Ground f.now numbers.now places }
-    ensures { (E : Edition) (k : List Known) → text E ≡ t → tab.now ≡ table f.now (length numbers.now) (look k)
-        → result ≡ stack_off k (tree_at (all_trees E f.now) n) }
+pub fn stack_off(tab: &[u64], of: &Numbered<'_>, n: u32) -> u64
+    ensures { (E : Edition) (k : List Known) → text E ≡ of.now.t → tab.now ≡ table of.now.f.now (length of.now.numbers.now) (look k)
+        → result ≡ stack_off k (tree_at (all_trees E of.now.f.now) n) }
 {
-    if n < size_of(f, EXPRESSIONS) {
-        return address_at(tab, f, t, numbers, places.exprs, n);
+    if n < size_of(of.f, EXPRESSIONS) {
+        return address_at(tab, of.f, of.t, of.numbers, of.places.exprs, n);
     }
     0
 }

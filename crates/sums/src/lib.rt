@@ -2,6 +2,7 @@
 #![tactic(auto)]
 
 pub mod address;
+pub mod numbered;
 pub mod outside;
 pub mod reading;
 mod sums;

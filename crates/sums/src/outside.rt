@@ -4,14 +4,12 @@ ghost use Rattle.definition.specs.Edition.{Edition};
 ghost use Rattle.definition.specs.Contents.{text};
 ghost use Rattle.definition.specs.Read.{all_trees};
 ghost use Rattle.definition.specs.Offsets.{Known, look, refused7};
-ghost use Rattle.places.specs.Keys.{places_of};
 ghost use Rattle.values.specs.Tables.{table};
-ghost use Rattle.sums.specs.Ground.{Ground};
 ghost use Rattle.sums.specs.Address.{value_at, outside_at};
 
+use crate::numbered::Numbered;
 use crate::reading::{const_at, op_byte, sum_at, used_at};
 use crate::sums::is_sign;
-use places::places_of;
 use records::contents::{EXPRESSIONS, expr_word, size_of};
 use records::owners::BIN;
 
@@ -28,15 +26,13 @@ fn sum_outside(tab: &[u64], f: &[u8], t: u32, numbers: &[u32], exprs: usize, n: 
 }
 
 // Whether some expression of the file is such a sum.
-pub fn refused7(tab: &[u64], f: &[u8], t: u32, numbers: &[u32]) -> bool
-    requires { Ground f.now numbers.now (places_of f.now) }
-    ensures { (E : Edition) (k : List Known) → text E ≡ t → tab.now ≡ table f.now (length numbers.now) (look k)
-        → result ≡ refused7 k (all_trees E f.now) }
+pub fn refused7(tab: &[u64], of: &Numbered<'_>) -> bool
+    ensures { (E : Edition) (k : List Known) → text E ≡ of.now.t → tab.now ≡ table of.now.f.now (length of.now.numbers.now) (look k)
+        → result ≡ refused7 k (all_trees E of.now.f.now) }
 {
-    let exprs = places_of(f).exprs;
-    let n = size_of(f, EXPRESSIONS);
+    let n = size_of(of.f, EXPRESSIONS);
     for i in 0..n {
-        if sum_outside(tab, f, t, numbers, exprs, i) {
+        if sum_outside(tab, of.f, of.t, of.numbers, of.places.exprs, i) {
             return true;
         }
     }

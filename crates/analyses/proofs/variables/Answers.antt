@@ -6,7 +6,7 @@ pub classes-requires : goal.classes-requires
 classes-requires c = for_classes _ _ _ _ _ _ _ c.requires.shared _ c.requires.unplaced.as_roots
 
 pub inline-requires : goal.inline-requires
-inline-requires c = record { told = for_inline _ _ _ _ _ _ _ c.requires.shared; places_value = c.requires.unplaced.no_places }
+inline-requires c = c.requires.unplaced.no_places
 
 pub returns : goal.returns
 returns c = all_placed_lem _ _ _ _ _ c.requires.unplaced.as_roots c.classes.ensures c.inline.ensures

@@ -10,10 +10,10 @@ pub loop-b-init : goal.loop-b-init
 loop-b-init c = (run_start _ _ (λ (E : Edition). placed_in E _) 0 _, stmts_start _, c.size_of-n.ensures, omega arith, refl)
 
 pub overflow_add-end : goal.overflow_add-end
-overflow_add-end c = omega (arith, block_small _ _ _ _ c.loop-b.invariant.1 c.block_stmts.ensures _ c.type_inv.f c.requires.told.own c.loop-b-test.true c.loop-b.invariant.2)
+overflow_add-end c = omega (arith, block_small _ _ _ _ c.loop-b.invariant.1 c.block_stmts.ensures _ c.args.of.now.bytes c.args.of.now.told.own c.loop-b-test.true c.loop-b.invariant.2)
 
 pub place_block-requires : goal.place_block-requires
-place_block-requires c = record { told = c.requires.told; first_le_end = (omega arith, block_inside _ _ _ _ c.loop-b.invariant.1 c.block_stmts.ensures _ c.requires.told.own c.loop-b-test.true c.loop-b.invariant.2) }
+place_block-requires c = (omega arith, block_inside _ _ _ _ c.loop-b.invariant.1 c.block_stmts.ensures _ c.args.of.now.told.own c.loop-b-test.true c.loop-b.invariant.2)
 
 pub loop-b-preserved : goal.loop-b-preserved
 loop-b-preserved c = let inv = c.loop-b.invariant in
@@ -21,4 +21,4 @@ loop-b-preserved c = let inv = c.loop-b.invariant in
     (run_turn _ _ (λ (E : Edition). placed_in E _) _ _ _ _ _ z inv.0 (block_placed _ _ _ _ inv.1 c.block_stmts.ensures _ _ _ c.place_block.ensures), stmts_turn _ _ _ _ inv.1 c.block_stmts.ensures, inv.2, omega arith, c.place_block.auto.places ∙ inv.4)
 
 pub returns : goal.returns
-returns c = all_placed_lem _ _ _ _ _ _ _ _ _ _ c.requires.told c.requires.places_value c.loop-b.invariant.2 c.loop-b.invariant.3 c.loop-b-test.false c.loop-b.invariant.0
+returns c = all_placed_lem _ _ _ _ _ _ _ _ _ _ c.args.of.now.told c.requires c.loop-b.invariant.2 c.loop-b.invariant.3 c.loop-b-test.false c.loop-b.invariant.0

@@ -10,4 +10,4 @@ use Rattle.inline.specs.Placing.{Adds, placed_in}
 use Rattle.inline.proofs.inline.Given as goal
 
 abbrev pub invariant-loop-b : goal.invariant-loop-b
-invariant-loop-b l = (Adds l.f (length l.numbers) (λ (E : Edition). gather (placed_in E l.f) (range 0 (l.b - 0))) l.initial.places l.places) × (l.first ≡ first_stmt l.f l.b) × (l.n ≡ size l.f blocks) × (l.b ≤ l.n) × (length l.places ≡ length l.initial.places)
+invariant-loop-b l = (Adds l.of.f.now (length l.of.numbers.now) (λ (E : Edition). gather (placed_in E l.of.f.now) (range 0 (l.b - 0))) l.initial.places l.places) × (l.first ≡ first_stmt l.of.f.now l.b) × (l.n ≡ size l.of.f.now blocks) × (l.b ≤ l.n) × (length l.places ≡ length l.initial.places)

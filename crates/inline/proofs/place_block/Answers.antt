@@ -6,10 +6,10 @@ use Rattle.inline.proofs.Adding.{run_start, run_turn, run_end}
 use Rattle.inline.proofs.place_block.Goals as goal
 
 pub loop-i-init : goal.loop-i-init
-loop-i-init c = (run_start _ _ (λ (E : Edition). placed_at E _ _) _ _, omega arith, c.requires.first_le_end.0, refl)
+loop-i-init c = (run_start _ _ (λ (E : Edition). placed_at E _ _) _ _, omega arith, c.requires.0, refl)
 
 pub place-requires : goal.place-requires
-place-requires c = record { told = c.requires.told; i_lt_end = (c.loop-i-test.true, c.requires.first_le_end.1) }
+place-requires c = (c.loop-i-test.true, c.requires.1)
 
 pub loop-i-preserved : goal.loop-i-preserved
 loop-i-preserved c = (run_turn _ _ (λ (E : Edition). placed_at E _ _) _ _ _ _ _ c.loop-i.invariant.1 c.loop-i.invariant.0 c.place.ensures, omega arith, omega arith, c.place.auto.places ∙ c.loop-i.invariant.3)

@@ -8,4 +8,4 @@ use Rattle.inline.specs.Placing.{Adds, placed_at}
 use Rattle.inline.proofs.place_block.Given as goal
 
 abbrev pub invariant-loop-i : goal.invariant-loop-i
-invariant-loop-i l = (Adds l.f (length l.numbers) (λ (E : Edition). gather (placed_at E l.f l.end) (range l.first (l.i - l.first))) l.initial.places l.places) × (l.first ≤ l.i) × (l.i ≤ l.end) × (length l.places ≡ length l.initial.places)
+invariant-loop-i l = (Adds l.of.f.now (length l.of.numbers.now) (λ (E : Edition). gather (placed_at E l.of.f.now l.end) (range l.first (l.i - l.first))) l.initial.places l.places) × (l.first ≤ l.i) × (l.i ≤ l.end) × (length l.places ≡ length l.initial.places)

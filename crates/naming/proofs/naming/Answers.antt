@@ -8,9 +8,6 @@ use Rattle.naming.proofs.naming.Goals as goal
 pub see_params-requires : goal.see_params-requires
 see_params-requires c = args_fit c.args.f.now _ _ c.requires.numbered.room c.requires.numbers_len_bound c.params-n.ensures.few
 
-pub name_blocks-requires : goal.name_blocks-requires
-name_blocks-requires c = record { f_value = c.requires.numbered.own; ordered = c.requires.ordered }
-
 pub returns : goal.returns
 returns c =
     let given = c.args in

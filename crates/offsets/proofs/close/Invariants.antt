@@ -14,7 +14,7 @@ use mathlib.Core.Path.{◌≡◌}
 use Rattle.offsets.proofs.close.Given as goal
 
 abbrev pub invariant-loop-changed : goal.invariant-loop-changed
-invariant-loop-changed l = (length l.tab ≡ length l.initial.tab) × ((E : Edition) (k : List Known) → text E ≡ l.t → l.initial.tab ≡ table l.f (length l.numbers) (look k) → Closes l.f (length l.numbers) (mine l.own (defs_below E l.f (size l.f blocks))) k l.tab l.changed)
+invariant-loop-changed l = (length l.tab ≡ length l.initial.tab) × ((E : Edition) (k : List Known) → text E ≡ l.of.t → l.initial.tab ≡ table l.of.f.now (length l.of.numbers.now) (look k) → Closes l.of.f.now (length l.of.numbers.now) (mine l.own (defs_below E l.of.f.now (size l.of.f.now blocks))) k l.tab l.changed)
 
 abbrev pub decreases-loop-changed : goal.decreases-loop-changed
 decreases-loop-changed l = zeros l.tab + cond l.changed 1 0

@@ -12,16 +12,16 @@ unfolding phi_defs range
 loop-i-init c = (omega arith, refl, inputs_start _ _ _ c.requires.n_bound.1, nothing_ran _ _ _ _ _ (mine_none _))
 
 pub overflow_add-from : goal.overflow_add-from
-overflow_add-from c = omega (arith, size_small c.args.f.now c.type_inv.f 2, c.requires.n_bound.0)
+overflow_add-from c = omega (arith, size_small c.args.of.now.f.now c.args.of.now.bytes 2, c.requires.n_bound.0)
 
 pub phi_step-c-requires : goal.phi_step-c-requires
-phi_step-c-requires c = record { ground = c.requires.ground; tab_len = c.loop-i.invariant.1 ∙ c.requires.tab_len; i_bound = (within _ _ _ _ c.loop-i-test.true c.requires.n_bound.0, c.loop-i.invariant.2) }
+phi_step-c-requires c = record { tab_len = c.loop-i.invariant.1 ∙ c.requires.tab_len; i_bound = (within _ _ _ _ c.loop-i-test.true c.requires.n_bound.0, c.loop-i.invariant.2) }
 
 pub overflow_add-from-in-loop-i : goal.overflow_add-from-in-loop-i
-overflow_add-from-in-loop-i c = omega (arith, size_small c.args.f.now c.type_inv.f 2, c.requires.n_bound.0, c.loop-i-test.true)
+overflow_add-from-in-loop-i c = omega (arith, size_small c.args.of.now.f.now c.args.of.now.bytes 2, c.requires.n_bound.0, c.loop-i-test.true)
 
 pub overflow_add-first : goal.overflow_add-first
-overflow_add-first c = omega (arith, inputs_small _ c.requires.ground.counts c.type_inv.f _ _ _ (within _ _ _ _ c.loop-i-test.true c.requires.n_bound.0) c.loop-i.invariant.2 c.phi_inputs-first.ensures)
+overflow_add-first c = omega (arith, inputs_small _ c.args.of.now.ground.counts c.args.of.now.bytes _ _ _ (within _ _ _ _ c.loop-i-test.true c.requires.n_bound.0) c.loop-i.invariant.2 c.phi_inputs-first.ensures)
 
 pub loop-i-preserved : goal.loop-i-preserved
 loop-i-preserved c = (omega arith, c.phi_step-c.auto.tab ∙ c.loop-i.invariant.1, inputs_turn _ _ _ _ _ c.loop-i.invariant.2 c.phi_inputs-first.ensures, both_ran _ _ _ _ _ _ _ _ _ _ _ _ (phis_parts _ _ _) refl c.loop-i.invariant.3 c.phi_step-c.ensures)

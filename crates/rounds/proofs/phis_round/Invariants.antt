@@ -8,4 +8,4 @@ use mathlib.Core.Path.{◌≡◌}
 use Rattle.rounds.proofs.phis_round.Given as goal
 
 abbrev pub invariant-loop-i : goal.invariant-loop-i
-invariant-loop-i l = (l.i ≤ l.n) × (length l.tab ≡ length l.initial.tab) × (l.first ≡ first_input l.f (l.from + l.i)) × Ran l.f (length l.numbers) (mine l.own (phi_defs l.f l.from l.i)) l.initial.tab l.tab l.changed
+invariant-loop-i l = (l.i ≤ l.n) × (length l.tab ≡ length l.initial.tab) × (l.first ≡ first_input l.of.f.now (l.from + l.i)) × Ran l.of.f.now (length l.of.numbers.now) (mine l.own (phi_defs l.of.f.now l.from l.i)) l.initial.tab l.tab l.changed

@@ -12,7 +12,7 @@ unfolding defs_below range gather
 loop-b-init c = (omega arith, refl, before_start _ _, λ E s. nothing_ran _ _ _ _ _ (mine_none _))
 
 pub block_round-w-requires : goal.block_round-w-requires
-block_round-w-requires c = record { ground = c.requires.ground; tab_len = c.loop-b.invariant.1 ∙ c.requires.tab_len; b_bound = (under c.loop-b-test.true c.size_of-n.ensures, c.loop-b.invariant.2) }
+block_round-w-requires c = record { tab_len = c.loop-b.invariant.1 ∙ c.requires.tab_len; b_bound = (under c.loop-b-test.true c.size_of-n.ensures, c.loop-b.invariant.2) }
 
 pub loop-b-preserved : goal.loop-b-preserved
 loop-b-preserved c = (omega arith, c.block_round-w.auto.tab ∙ c.loop-b.invariant.1, c.block_round-w.ensures.0, λ E s. both_ran _ _ _ _ _ _ _ _ _ _ _ _ (blocks_parts E _ _) refl (c.loop-b.invariant.3 E s) (c.block_round-w.ensures.1 E s))

@@ -10,4 +10,4 @@ use mathlib.Core.Path.{◌≡◌}
 use Rattle.rounds.proofs.round_of.Given as goal
 
 abbrev pub invariant-loop-b : goal.invariant-loop-b
-invariant-loop-b l = (l.b ≤ l.n) × (length l.tab ≡ length l.initial.tab) × Before l.f l.b l.w × ((E : Edition) → text E ≡ l.t → Ran l.f (length l.numbers) (mine l.own (defs_below E l.f l.b)) l.initial.tab l.tab l.changed)
+invariant-loop-b l = (l.b ≤ l.n) × (length l.tab ≡ length l.initial.tab) × Before l.of.f.now l.b l.w × ((E : Edition) → text E ≡ l.of.t → Ran l.of.f.now (length l.of.numbers.now) (mine l.own (defs_below E l.of.f.now l.b)) l.initial.tab l.tab l.changed)

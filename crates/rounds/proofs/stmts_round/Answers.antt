@@ -12,10 +12,10 @@ unfolding stmt_defs range gather
 loop-i-init c = (omega arith, refl, λ E s. nothing_ran _ _ _ _ _ (mine_none _))
 
 pub overflow_add-from : goal.overflow_add-from
-overflow_add-from c = omega (arith, size_small c.args.f.now c.type_inv.f 4, c.requires.n_bound)
+overflow_add-from c = omega (arith, size_small c.args.of.now.f.now c.args.of.now.bytes 4, c.requires.n_bound)
 
 pub stmt_step-c-requires : goal.stmt_step-c-requires
-stmt_step-c-requires c = record { ground = c.requires.ground; tab_len = c.loop-i.invariant.1 ∙ c.requires.tab_len; i_bound = within _ _ _ _ c.loop-i-test.true c.requires.n_bound }
+stmt_step-c-requires c = record { tab_len = c.loop-i.invariant.1 ∙ c.requires.tab_len; i_bound = within _ _ _ _ c.loop-i-test.true c.requires.n_bound }
 
 pub loop-i-preserved : goal.loop-i-preserved
 loop-i-preserved c = (omega arith, c.stmt_step-c.auto.tab ∙ c.loop-i.invariant.1, λ E s. both_ran _ _ _ _ _ _ _ _ _ _ _ _ (stmts_parts E _ _ _) refl (c.loop-i.invariant.2 E s) (c.stmt_step-c.ensures E s))

@@ -9,4 +9,4 @@ use mathlib.Core.Path.{◌≡◌}
 use Rattle.rounds.proofs.stmts_round.Given as goal
 
 abbrev pub invariant-loop-i : goal.invariant-loop-i
-invariant-loop-i l = (l.i ≤ l.n) × (length l.tab ≡ length l.initial.tab) × ((E : Edition) → text E ≡ l.t → Ran l.f (length l.numbers) (mine l.own (stmt_defs E l.f l.from l.i)) l.initial.tab l.tab l.changed)
+invariant-loop-i l = (l.i ≤ l.n) × (length l.tab ≡ length l.initial.tab) × ((E : Edition) → text E ≡ l.of.t → Ran l.of.f.now (length l.of.numbers.now) (mine l.own (stmt_defs E l.of.f.now l.from l.i)) l.initial.tab l.tab l.changed)

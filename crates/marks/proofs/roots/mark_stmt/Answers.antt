@@ -9,7 +9,7 @@ pub returns-then-passed_over : goal.returns-then-passed_over
 returns-then-passed_over c = λ E k s e. read_none _ E _ k _ _ _ _ (c.passed_over.ensures E k s e) c.if-passed_over.true
 
 pub mark_run-requires : goal.mark_run-requires
-mark_run-requires c = exprs_low _ c.type_inv.f _ (ap (λ (p : Places). p.exprs) c.requires.ground.where_all)
+mark_run-requires c = exprs_low _ c.args.of.now.bytes _ (ap (λ (p : Places). p.exprs) c.args.of.now.ground.where_all)
 
 pub returns : goal.returns
-returns c = λ E k s e. read_some _ E _ k _ _ _ _ (c.passed_over.ensures E k s e) _ _ _ _ _ _ c.requires.ordered c.requires.ground.where_all c.requires.i_bound c.if-passed_over.false c.get-a.ensures c.get-b.ensures c.mark_run.ensures
+returns c = λ E k s e. read_some _ E _ k _ _ _ _ (c.passed_over.ensures E k s e) _ _ _ _ _ _ c.requires.ordered c.args.of.now.ground.where_all c.requires.i_bound c.if-passed_over.false c.get-a.ensures c.get-b.ensures c.mark_run.ensures

@@ -5,24 +5,24 @@ use Rattle.definition.specs.Lists.{gather, range}
 use Rattle.definition.proofs.Runs.{loop_start, lists_turn, lists_end}
 use Rattle.places.specs.Keys.{places_of}
 use Rattle.reads.specs.Counts.{visit, slots}
-use Rattle.sums.proofs.Naming.{grounded}
 use Rattle.marks.specs.Reading.{classed, reading}
 use Rattle.marks.proofs.Rooting.{read_done}
 use Rattle.marks.proofs.roots.read_roots.Goals as goal
 
 pub loop-i-init : goal.loop-i-init
-loop-i-init c = let given = c.args in ((λ E k s e. loop_start (λ (m : ℕ). visit (classed given.roots.now) given.tab.now (gather (λ (j : ℕ). slots given.numbers.now (places_of given.f.now).exprs (reading E given.f.now k j)) (range 0 m))) _ _ c.size_of-n.ensures), c.size_of-n.ensures, c.places_of-places.ensures, refl)
+loop-i-init c = let given = c.args in ((λ E k s e. loop_start (λ (m : ℕ). visit (classed given.roots.now) given.tab.now (gather (λ (j : ℕ). slots given.of.now.numbers.now (places_of given.of.now.f.now).exprs (reading E given.of.now.f.now k j)) (range 0 m))) _ _ c.size_of-n.ensures), c.size_of-n.ensures, refl)
 
 pub mark_stmt-requires : goal.mark_stmt-requires
-mark_stmt-requires c = let inv = c.loop-i.invariant in record { ground = grounded _ _ _ inv.2 c.requires.ground; ordered = c.requires.ordered; i_bound = omega (arith, c.loop-i-test.true, inv.1) }
+mark_stmt-requires c = let inv = c.loop-i.invariant in record { ordered = c.requires.ordered; i_bound = omega (arith, c.loop-i-test.true, inv.1) }
 
 pub loop-i-preserved : goal.loop-i-preserved
 unfolding visit
-loop-i-preserved c = let inv = c.loop-i.invariant in ((λ E k s e. inv.0 E k s e ∙ lists_turn (visit _) _ (λ l. refl) (λ l x xs. refl) (λ (j : ℕ). slots c.args.numbers.now (places_of c.args.f.now).exprs (reading E c.args.f.now k j)) _ _ _ _ c.loop-i-test.true (c.mark_stmt.ensures E k s e)), inv.1, inv.2, c.mark_stmt.auto.tab ∙ inv.3)
+loop-i-preserved c = let inv = c.loop-i.invariant in ((λ E k s e. inv.0 E k s e ∙ lists_turn (visit _) _ (λ l. refl) (λ l x xs. refl) (λ (j : ℕ). slots c.args.of.now.numbers.now (places_of c.args.of.now.f.now).exprs (reading E c.args.of.now.f.now k j)) _ _ _ _ c.loop-i-test.true (c.mark_stmt.ensures E k s e)), inv.1, c.mark_stmt.auto.tab ∙ inv.2)
 
 pub returns : goal.returns
 unfolding visit
 returns c =
     let given = c.args in
     let pre = c.requires in
-    read_done given.f.now c.type_inv.f _ given.numbers.now given.offsets.now given.roots.now _ _ pre.ground pre.tab_value (λ E k s e. lists_end (visit _) _ (λ l. refl) (λ l x xs. refl) (λ (j : ℕ). slots given.numbers.now (places_of given.f.now).exprs (reading E given.f.now k j)) _ _ _ _ c.loop-i-test.false (c.loop-i.invariant.0 E k s e))
+    let g = c.args.of.now.ground in
+    read_done given.of.now.f.now c.args.of.now.bytes _ given.of.now.numbers.now given.offsets.now given.roots.now _ _ (record { counts = g.counts; where_all = refl; room = g.room; values = g.values }) pre.tab_value (λ E k s e. lists_end (visit _) _ (λ l. refl) (λ l x xs. refl) (λ (j : ℕ). slots given.of.now.numbers.now (places_of given.of.now.f.now).exprs (reading E given.of.now.f.now k j)) _ _ _ _ c.loop-i-test.false (c.loop-i.invariant.0 E k s e))

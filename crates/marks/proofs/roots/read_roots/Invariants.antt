@@ -14,4 +14,4 @@ use Rattle.marks.specs.Reading.{classed, reading}
 use Rattle.marks.proofs.roots.read_roots.Given as goal
 
 abbrev pub invariant-loop-i : goal.invariant-loop-i
-invariant-loop-i l = ((E : Edition) (k : List Known) → text E ≡ l.t → l.offsets ≡ table l.f (length l.numbers) (look k) → visit (classed l.roots) l.initial.tab (gather (λ (j : ℕ). slots l.numbers (places_of l.f).exprs (reading E l.f k j)) (range 0 (size l.f statements))) ≡ visit (classed l.roots) l.tab (gather (λ (j : ℕ). slots l.numbers (places_of l.f).exprs (reading E l.f k j)) (range l.i (l.n - l.i)))) × (l.n ≡ size l.f statements) × (l.places ≡ places_of l.f) × (length l.tab ≡ length l.initial.tab)
+invariant-loop-i l = ((E : Edition) (k : List Known) → text E ≡ l.of.t → l.offsets ≡ table l.of.f.now (length l.of.numbers.now) (look k) → visit (classed l.roots) l.initial.tab (gather (λ (j : ℕ). slots l.of.numbers.now (places_of l.of.f.now).exprs (reading E l.of.f.now k j)) (range 0 (size l.of.f.now statements))) ≡ visit (classed l.roots) l.tab (gather (λ (j : ℕ). slots l.of.numbers.now (places_of l.of.f.now).exprs (reading E l.of.f.now k j)) (range l.i (l.n - l.i)))) × (l.n ≡ size l.of.f.now statements) × (length l.tab ≡ length l.initial.tab)

@@ -14,11 +14,8 @@ pub returns-then-phi_word-eq1 : goal.returns-then-phi_word-eq1
 returns-then-phi_word-eq1 c = phi_dead _ _ _ _ _ _ c.phi_value-v.ensures c.if-v-eq-RSP.false _ c.phi_word.ensures c.if-phi_word-eq1.true
 
 pub overflow_add-p : goal.overflow_add-p
-overflow_add-p c = omega (arith, phis_small c.args.f.now c.type_inv.f, ap (λ (p : Places). p.phis) c.requires.0)
-
-pub name_run-requires : goal.name_run-requires
-name_run-requires c = c.requires.0
+overflow_add-p c = omega (arith, phis_small c.args.of.now.f.now c.args.of.now.bytes, ap (λ (p : Places). p.phis) c.args.of.now.laid.are)
 
 pub returns : goal.returns
 unfolding run_spot
-returns c = phi_live _ _ _ _ _ _ c.phi_value-v.ensures c.if-v-eq-RSP.false _ c.phi_word.ensures c.if-phi_word-eq1.false _ _ _ _ _ c.requires.0 c.requires.1 c.phi_inputs.ensures c.name_key-next.ensures c.name_run.ensures
+returns c = phi_live _ _ _ _ _ _ c.phi_value-v.ensures c.if-v-eq-RSP.false _ c.phi_word.ensures c.if-phi_word-eq1.false _ _ _ _ _ c.args.of.now.laid.are c.requires.0 c.phi_inputs.ensures c.name_key-next.ensures c.name_run.ensures

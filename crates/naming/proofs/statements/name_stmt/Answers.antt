@@ -13,30 +13,21 @@ use Rattle.naming.proofs.statements.name_stmt.Goals as goal
 pub returns-then-is_dead : goal.returns-then-is_dead
 returns-then-is_dead c = stmt_dead _ _ _ _ _ c.is_dead.ensures c.if-is_dead.true
 
-pub name_fields-next-requires : goal.name_fields-next-requires
-name_fields-next-requires c = ap (λ (p : Places). p.stmts) c.requires.laid.are
-
 pub overflow_add-a : goal.overflow_add-a
-overflow_add-a c = omega (arith, exprs_small c.args.f.now c.args.w.stmt c.args.w.item c.expr_items.result c.type_inv.f (c.requires.laid.own, c.requires.stmt_bound.0, c.requires.stmt_bound.1) c.expr_items.ensures)
+overflow_add-a c = omega (arith, exprs_small c.args.of.now.f.now c.args.w.stmt c.args.w.item c.expr_items.result c.args.of.now.bytes (c.args.of.now.laid.own, c.requires.0, c.requires.1) c.expr_items.ensures)
 
 pub overflow_add-b : goal.overflow_add-b
-overflow_add-b c = omega (arith, items_small c.args.f.now c.args.w.stmt c.args.w.item c.expr_items.result c.type_inv.f (c.requires.laid.own, c.requires.stmt_bound.0, c.requires.stmt_bound.1) c.expr_items.ensures c.value_items.result c.value_items.ensures)
-
-pub name_run-next-requires : goal.name_run-next-requires
-name_run-next-requires c = c.requires.laid.are
+overflow_add-b c = omega (arith, items_small c.args.of.now.f.now c.args.w.stmt c.args.w.item c.expr_items.result c.args.of.now.bytes (c.args.of.now.laid.own, c.requires.0, c.requires.1) c.expr_items.ensures c.value_items.result c.value_items.ensures)
 
 pub overflow_cast-i : goal.overflow_cast-i
-overflow_cast-i c = omega (arith, size_small c.args.f.now c.type_inv.f statements, c.requires.stmt_bound.0)
+overflow_cast-i c = omega (arith, size_small c.args.of.now.f.now c.args.of.now.bytes statements, c.requires.0)
 
 pub overflow_cast-i-2 : goal.overflow_cast-i-2
-overflow_cast-i-2 c = omega (arith, size_small c.args.f.now c.type_inv.f statements, c.requires.stmt_bound.0)
+overflow_cast-i-2 c = omega (arith, size_small c.args.of.now.f.now c.args.of.now.bytes statements, c.requires.0)
 
 pub overflow_add-i : goal.overflow_add-i
-overflow_add-i c = omega (arith, size_small c.args.f.now c.type_inv.f statements, c.requires.stmt_bound.0)
-
-pub name_run-requires : goal.name_run-requires
-name_run-requires c = c.requires.laid.are
+overflow_add-i c = omega (arith, size_small c.args.of.now.f.now c.args.of.now.bytes statements, c.requires.0)
 
 pub returns : goal.returns
 unfolding run_spot
-returns c = stmt_live _ _ _ _ _ c.is_dead.ensures c.if-is_dead.false _ _ _ _ _ _ c.requires.stmt_bound.1 c.expr_items.ensures c.value_items.ensures c.name_fields-next.ensures c.name_run-next.ensures (c.name_run.ensures ∙ ap (walked _ _) (uses_run c.args.f.now c.args.order.now c.args.starts.now _ _ c.requires.laid.flat c.args.w.stmt _ _ c.requires.stmt_bound.0 c.get-x.ensures c.get-y.ensures))
+returns c = stmt_live _ _ _ _ _ c.is_dead.ensures c.if-is_dead.false _ _ _ _ _ _ c.requires.1 c.expr_items.ensures c.value_items.ensures c.name_fields-next.ensures c.name_run-next.ensures (c.name_run.ensures ∙ ap (walked _ _) (uses_run c.args.of.now.f.now c.args.of.now.order.now c.args.of.now.starts.now _ _ c.args.of.now.laid.flat c.args.w.stmt _ _ c.requires.0 c.get-x.ensures c.get-y.ensures))

@@ -2,7 +2,6 @@
 use Rattle.naming.specs.Given.{standing}
 use Rattle.names.specs.Spots.{known, state}
 use Rattle.naming.specs.Walk.{walked, block_spots, spots}
-use Rattle.places.specs.Keys.{places_of}
 use Rattle.definition.specs.Owners.{first_phi, first_stmt}
 use Rattle.definition.specs.Lists.{gather, range}
 use Rattle.definition.specs.Contents.{size}
@@ -13,4 +12,4 @@ use mathlib.Core.Path.{◌≡◌}
 use Rattle.naming.proofs.walk.name_blocks.Given as goal
 
 abbrev pub invariant-loop-b : goal.invariant-loop-b
-invariant-loop-b l = (walked (known l.numbers l.roots l.away) (state l.initial.names l.initial.seen 1) (spots l.f) ≡ walked (known l.numbers l.roots l.away) (state l.names l.seen l.w.next) (gather (block_spots l.f) (range l.b (l.n - l.b)))) × (l.w ≡ standing l.f (first_phi l.f l.b) (first_stmt l.f l.b) l.w.next) × (l.n ≡ size l.f blocks) × (l.p ≡ places_of l.f) × (length l.names ≡ length l.initial.names) × (length l.seen ≡ length l.initial.seen)
+invariant-loop-b l = (walked (known l.of.numbers.now l.of.roots.now l.of.away.now) (state l.initial.names l.initial.seen 1) (spots l.of.f.now) ≡ walked (known l.of.numbers.now l.of.roots.now l.of.away.now) (state l.names l.seen l.w.next) (gather (block_spots l.of.f.now) (range l.b (l.n - l.b)))) × (l.w ≡ standing l.of.f.now (first_phi l.of.f.now l.b) (first_stmt l.of.f.now l.b) l.w.next) × (l.n ≡ size l.of.f.now blocks) × (length l.names ≡ length l.initial.names) × (length l.seen ≡ length l.initial.seen)

@@ -13,4 +13,4 @@ use Prim.Native.Nat.{◌≤◌}
 use Rattle.sums.proofs.outside.refused7.Given as goal
 
 abbrev pub invariant-loop-i : goal.invariant-loop-i
-invariant-loop-i l = (l.i ≤ l.n) × ((E : Edition) (k : List Known) → text E ≡ l.t → l.tab ≡ table l.f (length l.numbers) (look k) → any (outside k) (trees E l.f l.i) ≡ false)
+invariant-loop-i l = (l.i ≤ l.n) × ((E : Edition) (k : List Known) → text E ≡ l.of.t → l.tab ≡ table l.of.f.now (length l.of.numbers.now) (look k) → any (outside k) (trees E l.of.f.now l.i) ≡ false)
