@@ -3,9 +3,9 @@
 use mathlib.Core.Path.{◌≡◌, refl, sym, ap, ◌∙◌}
 use mathlib.Core.Bool.{Bool, true, false, not, cond, ◌&&◌, ◌||◌}
 use mathlib.Core.List.{List, []}
-use Prim.Native.Nat.{ℕ, ◌≤◌, ◌<◌}
+use Prim.Native.Nat.{ℕ}
 use lib.Dec.{eqb, ltb}
-use borrow.Author.Tests.{ltb-true, ltb-false, eq-eqb, ne_eqb, lt-ltb, le-ltb}
+use borrow.Author.Tests.{ltb-true, ltb-false, eq-eqb, ne_eqb}
 use Rattle.definition.specs.Edition.{Edition, expressions}
 use Rattle.definition.specs.Contents.{size, expr_word}
 use Rattle.definition.specs.Owners.{stmt_kind, stmt_field}
@@ -13,33 +13,12 @@ use Rattle.definition.specs.Ssa.{Expr}
 use Rattle.definition.specs.Ssa.Expr.{Opaque}
 use Rattle.definition.specs.Read.{tree_at, tree, trees, all_trees, kind_at, marked}
 use Rattle.definition.specs.Offsets.{Known, stack_off}
-use Rattle.definition.specs.Registers.{callee_saved}
 use Rattle.definition.specs.Lower.{is_saved, saves}
 use Rattle.definition.specs.Blocks.{is_save}
 use Rattle.definition.proofs.Bools.{by_test}
 use Rattle.records.proofs.Trees.{tree_lower, tree_past}
 use Rattle.records.proofs.Codes.{by_code}
 use Rattle.marks.specs.Reading.{saved_use, saved_at}
-
--- ---- is an expression a callee_saved_lem register's entry value
-module _ (f : List ℕ) (n m : ℕ) (is : m ≡ size f expressions) where
-  pub saved_past : m ≤ n → false ≡ saved_at f n
-  unfolding saved_at
-  saved_past h = rw (← is, le-ltb n m h)
-
-  module _ (here : n < m) (g : ℕ) (tag : g ≡ expr_word f n 0) where
-    pub saved_other : (g ≡ 2 → ⊥) → false ≡ saved_at f n
-    unfolding saved_at saved_use
-    saved_other h = rw (← is, lt-ltb n m here, ← tag, ne_eqb g 2 h)
-
-    module _ (used : g ≡ 2) (v : ℕ) (ver : v ≡ expr_word f n 2) where
-      pub saved_later : (v ≡ 0 → ⊥) → false ≡ saved_at f n
-      unfolding saved_at saved_use
-      saved_later h = rw (← is, lt-ltb n m here, ← tag, eq-eqb g 2 used, ← ver, ne_eqb v 0 h)
-
-      pub saved_is : (r : ℕ) (b : Bool) → v ≡ 0 → r ≡ expr_word f n 1 → b ≡ callee_saved r → b ≡ saved_at f n
-      unfolding saved_at saved_use
-      saved_is r b h e p = p ∙ rw (← is, lt-ltb n m here, ← tag, eq-eqb g 2 used, ← ver, eq-eqb v 0 h, e)
 
 -- ---- the trees
 module _ (E : Edition) (f : List ℕ) where

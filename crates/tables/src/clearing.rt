@@ -14,14 +14,6 @@ pub fn clear_four(a: &mut [u32], b: &mut [u32], c: &mut [u32], d: &mut [u32])
     clear(d);
 }
 
-fn clear_three(a: &mut [u32], b: &mut [u32], c: &mut [u32])
-    ensures { (a.new ≡ replicate (length a.old) 0) × (b.new ≡ replicate (length b.old) 0) × (c.new ≡ replicate (length c.old) 0) }
-{
-    clear(a);
-    clear(b);
-    clear(c);
-}
-
 // What stands when check 7 refuses.
 pub fn clear_numbers(keys: &mut [u64], numbers: &mut [u32], offs: &mut [u64])
     ensures { (keys.new ≡ replicate (length keys.old) 0) × (numbers.new ≡ replicate (length numbers.old) 0)
@@ -54,5 +46,7 @@ pub fn clear_all(
     clear_numbers(keys, numbers, offs);
     clear_four(order, starts, loads, spare);
     clear_four(live, phi, roots, places);
-    clear_three(names, marks, labels);
+    clear(names);
+    clear(marks);
+    clear(labels);
 }

@@ -13,40 +13,22 @@ pub const STARTS: usize = 1025;
 pub const BLOCKS: usize = 320;
 
 // Five tables by place.
+#[tactic(auto, unfolding(crate::specs::Tables::long_places))]
 fn long_places(a: usize, b: usize, c: usize, d: usize, e: usize) -> bool
     ensures { result ≡ long_places a b c d e }
 {
-    if a != PLACES {
-        return false;
-    }
-    if b != PLACES {
-        return false;
-    }
-    if c != PLACES {
-        return false;
-    }
-    if d != PLACES {
-        return false;
-    }
-    e == PLACES
+    a == PLACES && b == PLACES && c == PLACES && d == PLACES && e == PLACES
 }
 
 // Those by record.
+#[tactic(auto, unfolding(crate::specs::Tables::long_records))]
 fn long_records(order: usize, starts: usize, loads: usize, labels: usize) -> bool
     ensures { result ≡ long_records order starts loads labels }
 {
-    if order != EXPRESSIONS {
-        return false;
-    }
-    if starts != STARTS {
-        return false;
-    }
-    if loads != EXPRESSIONS {
-        return false;
-    }
-    labels == BLOCKS
+    order == EXPRESSIONS && starts == STARTS && loads == EXPRESSIONS && labels == BLOCKS
 }
 
+#[tactic(auto, unfolding(crate::specs::Tables::all_long))]
 pub fn are_long(
     keys: usize,
     numbers: usize,
@@ -65,11 +47,7 @@ pub fn are_long(
 ) -> bool
     ensures { result ≡ all_long keys numbers spare offs order starts loads live phi roots places names marks labels }
 {
-    if !long_places(keys, numbers, spare, offs, live) {
-        return false;
-    }
-    if !long_places(phi, roots, places, names, marks) {
-        return false;
-    }
-    long_records(order, starts, loads, labels)
+    long_places(keys, numbers, spare, offs, live)
+        && long_places(phi, roots, places, names, marks)
+        && long_records(order, starts, loads, labels)
 }

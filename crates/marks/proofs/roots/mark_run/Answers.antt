@@ -1,5 +1,4 @@
 use mathlib.Core.Path.{refl, ◌∙◌}
-use Prim.Native.Nat.{◌-◌}
 use Rattle.reads.proofs.Visits.{run_turn, run_end}
 use Rattle.marks.proofs.Rooting.{class_is}
 use Rattle.marks.proofs.roots.mark_run.Goals as goal

@@ -1,6 +1,5 @@
 -- The nodes before j have marked the roots of what they read and those from j up to b are left; a node's place gives the value's number.
 use mathlib.Core.Path.{◌≡◌}
-use Prim.Native.Nat.{◌-◌}
 use lib.ListN.{length}
 use Rattle.reads.specs.Counts.{visit, slots, between}
 use Rattle.marks.specs.Reading.{classed}

@@ -1,6 +1,6 @@
 use native.Mathlib.Omega.{arith}
 use mathlib.Core.Path.{refl, ◌∙◌}
-use Prim.Native.Nat.{ℕ, ◌-◌}
+use Prim.Native.Nat.{ℕ}
 use Rattle.definition.specs.Lists.{gather, range}
 use Rattle.definition.proofs.Runs.{loop_start, lists_turn, lists_end}
 use Rattle.places.specs.Keys.{places_of}
