@@ -11,6 +11,8 @@ ghost use Rattle.tables.specs.Stages.{width, Grounded, Rooted, Stacked, Stack, U
 use crate::clearing::{clear_four, clear_numbers};
 use analyses::{name_variables, number_values, read_tables, variables};
 use marks::roots::read_roots;
+use places::places_of;
+use sums::numbered::Numbered;
 use sums::outside::refused7;
 use zeros::clear;
 
@@ -18,22 +20,28 @@ use zeros::clear;
 const TEXT: u32 = 8;
 
 // The stack offsets, and whether a sum is outside.
-fn stack(offs: &mut [u64], f: &[u8], numbers: &[u32], keys: &[u64]) -> bool
+fn stack<'a>(offs: &mut [u64], f: &'a [u8], numbers: &'a [u32], keys: &[u64]) -> bool
     requires grounded { Grounded f.now numbers.now }
     requires keys_value { keys.now ≡ keyed f.now (width f.now) }
     requires offs_value { offs.old ≡ replicate (width f.now) 0 }
     ensures { Stack f.now (width f.now) result offs.new }
 {
-    offsets::offsets(offs, f, TEXT, numbers, keys);
-    refused7(offs, f, TEXT, numbers)
+    let of = Numbered {
+        f,
+        t: TEXT,
+        places: places_of(f),
+        numbers,
+    };
+    offsets::offsets(offs, &of, keys);
+    refused7(offs, &of)
 }
 
 // The classes that are really read, and the blocks that have a label.
-fn mark(
+fn mark<'a>(
     marks: &mut [u32],
     labels: &mut [u32],
-    f: &[u8],
-    numbers: &[u32],
+    f: &'a [u8],
+    numbers: &'a [u32],
     offs: &[u64],
     roots: &[u32],
     order: &[u32],
@@ -46,7 +54,13 @@ fn mark(
     requires unmarked { Unmarked (width f.now) marks.old labels.old }
     ensures { Marked f.now (width f.now) marks.new labels.new }
 {
-    read_roots(marks, f, TEXT, numbers, offs, roots, order, starts);
+    let of = Numbered {
+        f,
+        t: TEXT,
+        places: places_of(f),
+        numbers,
+    };
+    read_roots(marks, &of, offs, roots, order, starts);
     labels::labels(labels, f);
 }
 

@@ -3,10 +3,7 @@ use Rattle.tables.proofs.Staging.{ground, unstacked, stacked}
 use Rattle.tables.proofs.steps.stack.Goals as goal
 
 pub offsets-requires : goal.offsets-requires
-offsets-requires c = let q = unstacked _ _ c.requires.grounded _ _ c.requires.keys_value c.requires.offs_value in record { ground = q.0; keys_value = q.1.0; tab_value = q.1.1 }
-
-pub refused7-requires : goal.refused7-requires
-refused7-requires c = ground _ _ c.requires.grounded
+offsets-requires c = let q = unstacked _ _ c.requires.grounded _ _ c.requires.keys_value c.requires.offs_value in record { keys_value = q.1.0; tab_value = q.1.1 }
 
 pub returns : goal.returns
 returns c = stacked _ _ c.requires.grounded _ _ c.offsets.ensures c.refused7.ensures
