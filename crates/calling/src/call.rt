@@ -15,7 +15,7 @@ ghost use Rattle.calling.specs.Written.{call_of};
 use crate::args::put_args;
 use crate::callee::put_target;
 use crate::result::put_result;
-use lowering::kinds::PUNCT;
+use render::kinds::PUNCT;
 use lowering::line::end_stmt;
 use pieces::put::put;
 use places::Places;

@@ -8,7 +8,7 @@ ghost use Rattle.room.specs.Room.{room_of, emit_all, seen};
 ghost use Rattle.calling.specs.Given.{Results};
 ghost use Rattle.calling.specs.Written.{setting_of, result_of};
 
-use lowering::kinds::PUNCT;
+use render::kinds::PUNCT;
 use meaning::meaning::bits_of;
 use pieces::put::put;
 use places::Places;

@@ -10,11 +10,11 @@ ghost use Rattle.render.specs.Told.{Told};
 ghost use Rattle.lowering.specs.Lowered.{lowering_of, expr_of, within_of};
 ghost use Rattle.lowering.specs.Commas.{arg_of, least};
 
-use crate::kinds::PUNCT;
 use pieces::put::{put, put_if};
 use places::Places;
 use records::contents::{STATEMENTS, item_word, size_of};
 use render::expr::expr;
+use render::kinds::PUNCT;
 use room::out::Out;
 
 // The lesser of two numbers.

@@ -15,7 +15,7 @@ ghost use Rattle.lowering.specs.Lowered.{lowered};
 ghost use Rattle.plain.specs.Asm.{asm_block, asm_call, asm_of, other_of};
 
 use crate::sets::{Named, Sets, sets_of};
-use lowering::kinds::{KEYWORD, PUNCT, TEXT};
+use render::kinds::{KEYWORD, PUNCT, TEXT};
 use lowering::line::end_stmt;
 use meaning::meaning::bits_of;
 use pieces::from_file::put_part;

@@ -11,7 +11,7 @@ ghost use Rattle.render.specs.Told.{Told};
 ghost use Rattle.lowering.specs.Lowered.{lowered};
 ghost use Rattle.plain.specs.Pieces.{result_of, return_of};
 
-use lowering::kinds::{KEYWORD, PUNCT, TEXT};
+use render::kinds::{KEYWORD, PUNCT, TEXT};
 use lowering::line::end_stmt;
 use lowering::list::put_expr;
 use pieces::put::put;

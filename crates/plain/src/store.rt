@@ -15,7 +15,7 @@ ghost use Rattle.lowering.specs.Lowered.{lowered};
 ghost use Rattle.plain.specs.Pieces.{is_taken, is_silent, through_of, destination_of, store_of};
 
 use calls::pushes::taken_behind;
-use lowering::kinds::PUNCT;
+use render::kinds::PUNCT;
 use lowering::line::end_stmt;
 use lowering::list::{put_expr, put_within};
 use marks::saves::is_save;
