@@ -76,15 +76,3 @@ module _ (E : Edition) (f : List ℕ) where
   pushed_end from i j b r r₀ h s =
       sym (s ∙ ap (λ (l : List ℕ). seen (emit_all r (args_of E f b l))) (nodes_none from j h) ∙ args_none E f b r)
       ∙ ap (λ (ps : List Token). seen (emit_all r₀ ps)) (args_are E f (pushed_nodes f from i))
-
--- ---- the tests, by what was read
-pub push_kind : (f : List ℕ) (i k : ℕ) (m : Bool) → m ≡ marked f i 4 → m ≡ true → k ≡ stmt_kind f i → eqb k 2 ≡ is_push f i
-unfolding is_push
-push_kind f i k m s t w = rw (← s, t, w)
-
-pub push_none : (f : List ℕ) (i : ℕ) (m : Bool) → m ≡ marked f i 4 → m ≡ false → false ≡ is_push f i
-unfolding is_push
-push_none f i m s t = rw (← s, t)
-
-pub more_if : (b p q : Bool) → b ≡ false → q ≡ p → q ≡ (b || p)
-more_if b p q t h = rw t h

@@ -3,10 +3,9 @@ use mathlib.Core.Path.{◌≡◌, refl, sym, ap, ◌∙◌}
 use mathlib.Core.Bool.{Bool, true, false, cond, ◌&&◌}
 use mathlib.Core.Option.{Option, none, some}
 use mathlib.Core.List.{List, [], ◌∷◌}
-use Prim.Native.Nat.{ℕ, zero, suc, ◌≤◌, ◌<◌}
-use native.Mathlib.Omega.{arith}
+use Prim.Native.Nat.{ℕ, zero, suc}
 use lib.Dec.{eqb, ltb}
-use borrow.Author.Tests.{ltb-true, ltb-false, lt-ltb, le-ltb, eqb-true, eq-eqb, ne_eqb}
+use borrow.Author.Tests.{ltb-true, ltb-false, eqb-true}
 use Rattle.definition.specs.Codes.{t_const, t_use, t_bin, t_un, t_load}
 use Rattle.definition.specs.Edition.{Edition, expressions}
 use Rattle.definition.specs.Texts.{txt}
@@ -147,34 +146,7 @@ module _ (E : Edition) (f : List ℕ) where
     unfolding target_of
     target_direct r r₀ h k = rw (computed, h, direct_is) (one r r₀ (symbol (direct_text E f (text_at E f start len))) k)
 
--- ---- the code's tests, by the words that were read
-module _ (f : List ℕ) (n m : ℕ) (many : m ≡ size f expressions) where
-  pub slot_past : m ≤ n → false ≡ is_slot f n
-  unfolding is_slot
-  slot_past h = let z : size f expressions ≤ n = omega arith in rw (le-ltb n (size f expressions) z)
-
-  module _ (inside : n < m) (g : ℕ) (tag : g ≡ expr_word f n 0) where
-    here : ltb n (size f expressions) ≡ true
-    here = lt-ltb n (size f expressions) (omega arith)
-
-    pub slot_other : (g ≡ 5 → ⊥) → false ≡ is_slot f n
-    unfolding is_slot
-    slot_other h = rw (here, ← tag, ne_eqb g 5 h)
-
-    module _ (loads : g ≡ 5) (c : ℕ) (child : c ≡ expr_word f n 2) where
-      pub slot_high : n ≤ c → false ≡ is_slot f n
-      unfolding is_slot
-      slot_high h = rw (here, ← tag, eq-eqb g 5 loads, ← child, le-ltb c n h)
-
-      module _ (lower : c < n) (k : ℕ) (kind : k ≡ expr_word f c 0) where
-        pub slot_variable : (k ≡ 1 → ⊥) → false ≡ is_slot f n
-        unfolding is_slot
-        slot_variable h = rw (here, ← tag, eq-eqb g 5 loads, ← child, lt-ltb c n lower, ← kind, ne_eqb k 1 h)
-
-        pub slot_const : (x : ℕ) (b : Bool) → k ≡ 1 → x ≡ expr_long f c 1 → b ≡ is_global x → b ≡ is_slot f n
-        unfolding is_slot
-        slot_const x b h p q = rw (here, ← tag, eq-eqb g 5 loads, ← child, lt-ltb c n lower, ← kind, eq-eqb k 1 h, ← p) q
-
+-- ---- the global that the code writes
 pub slot_put : (f : List ℕ) (t n s c x : ℕ) (r r₀ : Room) → s ≡ expr_word f n 1 → c ≡ expr_word f n 2 → x ≡ expr_long f c 1 → r ≡ emit r₀ (tok 4 (global_text f t x s))
     → r ≡ emit r₀ (tok 4 (slot_text f t n))
 unfolding slot_text

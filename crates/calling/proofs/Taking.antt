@@ -2,20 +2,20 @@
 use mathlib.Core.Path.{◌≡◌, refl, sym, ap, ap₂, ◌∙◌}
 use mathlib.Core.Bool.{Bool, true, false, cond}
 use mathlib.Core.List.{List}
-use Prim.Native.Nat.{ℕ, zero, suc, ◌+◌, ◌-◌, ◌≤◌, ◌<◌}
+use Prim.Native.Nat.{ℕ, min, zero, suc, ◌+◌, ◌-◌, ◌≤◌, ◌<◌}
 use native.Mathlib.Omega.{arith}
 use lib.ListN.{take, drop, get_or}
 use mir.Syntax.{w8}
 use mir.Val.{Fits}
-use borrow.Author.Tests.{lt-ltb, le-ltb}
+use borrow.Author.Tests.{lt-ltb}
 use Rattle.definition.specs.Edition.{Edition}
 use Rattle.definition.specs.Lists.{range}
 use Rattle.definition.specs.Owners.{stmt_kind, stmt_field}
 use Rattle.records.proofs.Items.{items_few, exprs_fit}
 use Rattle.records.proofs.Laws.{kind_exprs}
 use Rattle.calling.specs.Given.{CallAt}
-use Rattle.lowering.specs.Commas.{trees_of, listed, least}
-use Rattle.lowering.proofs.Commas.{take_listed, least_le}
+use Rattle.lowering.specs.Commas.{trees_of, listed}
+use Rattle.lowering.proofs.Commas.{take_listed}
 use Rattle.calling.specs.Written.{skip, counted}
 
 module _ (E : Edition) (f : List ℕ) where
@@ -38,19 +38,6 @@ module _ (E : Edition) (f : List ℕ) where
   counted_are b item n c = ap (take c) (dropped b item n) ∙ take_listed E f c (item + skip b n) (n - skip b n)
 
 -- ---- what the code computes
-pub skip_empty : (b : Bool) (n : ℕ) → n ≡ 0 → 0 ≡ skip b n
-unfolding skip
-skip_empty true n h = let z : n ≤ 0 = omega arith in rw (le-ltb 0 n z)
-skip_empty false n h = refl
-
-pub skip_one : (b : Bool) (n : ℕ) → (n ≡ 0 → ⊥) → b ≡ true → 1 ≡ skip b n
-unfolding skip
-skip_one b n h t = let z : 0 < n = omega (arith, h) in rw (t, lt-ltb 0 n z)
-
-pub skip_none : (b : Bool) (n : ℕ) → b ≡ false → 0 ≡ skip b n
-unfolding skip
-skip_none b n t = rw t
-
 pub skip_le : (b : Bool) (n : ℕ) → skip b n ≤ n
 unfolding skip
 skip_le true zero = omega arith
@@ -69,5 +56,5 @@ module _ (f : List ℕ) (bytes : (k : ℕ) → Fits w8 (get_or f k 0)) (i item :
     pub sum_fits : item + s < 4294967296
     sum_fits = omega (arith, items_below, skip_fits)
 
-    pub run_fits : (c m : ℕ) → m ≡ least c (n - s) → item + s + m < 4294967296
-    run_fits c m h = omega (arith, items_below, skip_fits, least_le c (n - s))
+    pub run_fits : (c m : ℕ) → m ≡ min c (n - s) → item + s + m < 4294967296
+    run_fits c m h = omega (arith, items_below, skip_fits)

@@ -4,7 +4,7 @@ use mathlib.Core.Path.{◌≡◌, refl, sym, ap, ◌∙◌}
 use mathlib.Core.Bool.{Bool, true, false, cond}
 use mathlib.Core.Option.{some}
 use mathlib.Core.List.{List, [], ◌∷◌, ◌++◌, map}
-use Prim.Native.Nat.{ℕ, ◌-◌, ◌+◌}
+use Prim.Native.Nat.{ℕ, min, ◌-◌, ◌+◌}
 use lib.Dec.{eqb}
 use lib.ListN.{take, drop}
 use borrow.Author.Tests.{eq-eqb, ne_eqb}
@@ -29,7 +29,7 @@ use Rattle.lowering.specs.Lowered.{lowering_of, stmt_of, lowered}
 use Rattle.calls.specs.Waiting.{pending, pushed_nodes}
 use Rattle.calls.proofs.Waits.{pushed_nodes_lem}
 use Rattle.calling.specs.Given.{CallAt}
-use Rattle.lowering.specs.Commas.{trees_of, listed, least}
+use Rattle.lowering.specs.Commas.{trees_of, listed}
 use Rattle.calling.specs.Written.{result_of, target_text, target_of, skip, counted, waiting_nodes, arg_nodes, call_of}
 use Rattle.lowering.proofs.Gen.{gen_bits}
 use Rattle.lowering.proofs.Commas.{listed_is}
@@ -115,7 +115,7 @@ module _ (E : Edition) (f : List ℕ) where
 
   -- the first of the list items
   pub counted_all : (i item start len n s c m : ℕ) (b : Bool) (r r₀ : Room) → start ≡ stmt_field f i 0 → len ≡ stmt_field f i 1 → n ≡ stmt_field f i 2
-      → b ≡ is_indirect (text_at E f start len) → s ≡ skip b n → m ≡ least c (n - s)
+      → b ≡ is_indirect (text_at E f start len) → s ≡ skip b n → m ≡ min c (n - s)
       → seen r ≡ seen (emit_all r₀ (comma_list (lowering_of E f) (map (tree_at (all_trees E f)) (map (λ (k : ℕ). item_word f (item + s + k) 0) (range 0 m)))))
       → seen r ≡ seen (emit_all r₀ (comma_list (lowering_of E f) (trees_of E f (counted f (is_indirect (target_text E f i)) item (stmt_field f i 2) c))))
   unfolding trees_of counted target_text

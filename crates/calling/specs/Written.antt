@@ -1,5 +1,5 @@
 -- The pieces of a call's line, by the numbers of its records.
-use Rattle.std.specs.Prelude.{Bool, cond, ◌&&◌, List, [], ◌∷◌, ◌++◌, ℕ, ◌+◌, ◌-◌, eqb, ltb}
+use Rattle.std.specs.Prelude.{min, Bool, cond, ◌&&◌, List, [], ◌∷◌, ◌++◌, ℕ, ◌+◌, ◌-◌, eqb, ltb}
 use Rattle.definition.specs.Codes.{k_store, t_const, t_load}
 use Rattle.definition.specs.Edition.{Edition, expressions}
 use Rattle.definition.specs.Texts.{txt}
@@ -15,7 +15,7 @@ use Rattle.definition.specs.Lower.{result_tokens, direct, indirect, is_indirect,
 use Rattle.text.specs.Supplied.{is_global, global_text}
 use Rattle.names.specs.Codes.{name_text}
 use Rattle.lowering.specs.Lowered.{lowering_of}
-use Rattle.lowering.specs.Commas.{arg_of, trees_of, listed, least}
+use Rattle.lowering.specs.Commas.{arg_of, trees_of, listed}
 use Rattle.calls.specs.Waiting.{pushed_nodes}
 
 -- ---- the pushes
@@ -57,7 +57,7 @@ skip computed n = cond (computed && ltb 0 n) 1 0
 
 -- of 64 bits, and of 32
 unfoldable pub counted : List ℕ → Bool → ℕ → ℕ → ℕ → List ℕ
-counted f computed item n count = listed f (item + skip computed n) (least count (n - skip computed n))
+counted f computed item n count = listed f (item + skip computed n) (min count (n - skip computed n))
 
 unfoldable pub waiting_nodes : List ℕ → ℕ → ℕ → List ℕ
 waiting_nodes f from i = cond (marked f i 4) [] (pushed_nodes f from i)

@@ -13,23 +13,18 @@ ghost use Rattle.calling.specs.Written.{target_text, skip, counted, waiting_node
 
 use crate::pushed::put_pushed;
 use calls::direct::is_indirect;
-use lowering::list::{least_of, put_items};
+use lowering::list::put_items;
 use meaning::meaning::bits_of;
 use places::Places;
 use records::owners::{is_pushed, stmt_field};
 use room::out::Out;
 
 // How many of n list items stand before the arguments: the address of a computed call.
+#[tactic(auto, unfolding(crate::specs::Written::skip))]
 fn skipped(computed: bool, n: u32) -> u32
     ensures { result ≡ skip computed n }
 {
-    if n == 0 {
-        return 0;
-    }
-    if computed {
-        return 1;
-    }
-    0
+    u32::from(computed && n != 0)
 }
 
 // Of 64 bits: the first `count`.
@@ -58,7 +53,7 @@ fn put_counted(
     let len = stmt_field(f, i, 1);
     let n = stmt_field(f, i, 2);
     let s = skipped(is_indirect(f, t, start, len), n);
-    let m = least_of(count, n - s);
+    let m = count.min(n - s);
     put_items(
         tokens,
         text,

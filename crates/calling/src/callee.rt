@@ -20,23 +20,16 @@ use room::out::Out;
 use text::names::is_global;
 
 // Whether expression n loads a constant that names a global. A child that is not lower counts as no constant.
+#[tactic(auto, unfolding(crate::specs::Written::is_slot))]
 fn is_slot(f: &[u8], n: u32) -> bool
     ensures { result ≡ is_slot f.now n }
 {
-    if size_of(f, EXPRESSIONS) <= n {
-        return false;
-    }
-    if expr_word(f, n, 0) != LOAD {
-        return false;
-    }
     let c = expr_word(f, n, 2);
-    if n <= c {
-        return false;
-    }
-    if expr_word(f, c, 0) != CONST {
-        return false;
-    }
-    is_global(expr_long(f, c, 1))
+    n < size_of(f, EXPRESSIONS)
+        && expr_word(f, n, 0) == LOAD
+        && c < n
+        && expr_word(f, c, 0) == CONST
+        && is_global(expr_long(f, c, 1))
 }
 
 // That global.

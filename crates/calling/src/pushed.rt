@@ -16,23 +16,11 @@ use records::owners::{STORE, is_pushed, stmt_field, stmt_kind};
 use room::out::Out;
 
 // Whether statement i pushes a value: only a Store does.
+#[tactic(auto, unfolding(crate::specs::Written::is_push))]
 fn is_push(f: &[u8], i: u32) -> bool
     ensures { result ≡ is_push f.now i }
 {
-    if is_pushed(f, i) {
-        return stmt_kind(f, i) == STORE;
-    }
-    false
-}
-
-// Whether something stands before what is behind statement i.
-fn more_behind(f: &[u8], i: u32, more: bool) -> bool
-    ensures { result ≡ (more || is_push f.now i) }
-{
-    if more {
-        return true;
-    }
-    is_push(f, i)
+    is_pushed(f, i) && stmt_kind(f, i) == STORE
 }
 
 // The value that statement i pushes, if it does.
@@ -84,13 +72,11 @@ pub fn put_pushed(
 {
     let mut out = out;
     let mut more = false;
-    let mut j = i;
-    while from < j {
-        j -= 1;
+    for j in (from..i).rev() {
         out = put_push(
             tokens, text, out, f, t, places, numbers, offs, placed, names, j, more,
         );
-        more = more_behind(f, j, more);
+        more |= is_push(f, j);
     }
     out
 }

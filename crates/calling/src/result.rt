@@ -8,13 +8,13 @@ ghost use Rattle.room.specs.Room.{room_of, emit_all, seen};
 ghost use Rattle.calling.specs.Given.{Results};
 ghost use Rattle.calling.specs.Written.{setting_of, result_of};
 
-use lowering::kinds::PUNCT;
 use meaning::meaning::bits_of;
 use pieces::put::put;
 use places::Places;
 use reads::is_read;
 use records::owners::stmt_field;
 use render::code::put_code;
+use render::kinds::PUNCT;
 use room::out::Out;
 use slices::get;
 

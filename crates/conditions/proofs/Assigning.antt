@@ -3,11 +3,13 @@ use mathlib.Core.Path.{◌≡◌, refl, sym, ap, ◌∙◌}
 use mathlib.Core.Bool.{Bool, true, false, cond, ◌&&◌, true≢false}
 use mathlib.Core.Option.{Option, none, some, some-injective}
 use mathlib.Core.List.{List, [], ◌∷◌, map}
-use Prim.Native.Nat.{ℕ, suc, ◌+◌, ◌-◌, ◌≤◌, ◌<◌}
+use Prim.Native.Nat.{ℕ, zero, suc, ◌+◌, ◌≤◌, ◌<◌}
 use native.Mathlib.Omega.{arith}
 use lib.Dec.{eqb}
+use Rattle.std.specs.Prelude.{Option as Answer, Some, None, MatchOption}
+use Rattle.std.specs.Option.{unwrap_or}
 use lib.ListN.{length, replicate, length-replicate}
-use borrow.Author.Tests.{eq-eqb, ne_eqb, eqb-true}
+use borrow.Author.Tests.{eq-eqb, eqb-true}
 use Rattle.definition.specs.Edition.{Edition, Section, Room, statements}
 use Rattle.definition.specs.Lists.{any, range}
 use Rattle.definition.specs.Contents.{size, text}
@@ -27,19 +29,6 @@ use Rattle.conditions.specs.Assigns.{assigns_as, Alike}
 
 -- ---- the test
 module _ (f : List ℕ) (i k : ℕ) where
-  pub no_assign : (w : ℕ) → w ≡ stmt_kind f k → (w ≡ 1 → ⊥) → false ≡ assigns_as f i k
-  unfolding assigns_as
-  no_assign w e h = rw (← e, ne_eqb w 1 h)
-
-  module _ (w a b : ℕ) (kind : w ≡ stmt_kind f k) (assigns : w ≡ 1) (one : a ≡ stmt_field f k 0) (other : b ≡ stmt_field f i 0) where
-    pub other_register : (a ≡ b → ⊥) → false ≡ assigns_as f i k
-    unfolding assigns_as
-    other_register h = rw (← kind, assigns, ← one, ← other, ne_eqb a b h)
-
-    pub by_version : (c d : ℕ) (r : Bool) → a ≡ b → c ≡ stmt_field f k 1 → d ≡ stmt_field f i 1 → r ≡ eqb c d → r ≡ assigns_as f i k
-    unfolding assigns_as
-    by_version c d r h p q e = e ∙ rw (← kind, assigns, ← one, ← other, eq-eqb a b h, ← p, ← q)
-
   pub alike : assigns_as f i k ≡ true → k < size f statements → Alike f i k
   unfolding assigns_as
   alike h inside =
@@ -52,24 +41,18 @@ module _ (f : List ℕ) (i k : ℕ) where
       }
 
 -- ---- the search
-module _ (p : ℕ → Bool) (first count : ℕ) where
-  pub search_start : any p (range first count) ≡ true → any p (range (first + 0) (count - 0)) ≡ true
-  search_start h =
-      let a : first + 0 ≡ first = omega arith in
-      let b : count - 0 ≡ count = omega arith in
-      rw (a, b) h
+any_none : (p : ℕ → Bool) (first count : ℕ) → ((k : ℕ) → first ≤ k → k < first + count → p k ≡ false) → any p (range first count) ≡ false
+unfolding any range
+any_none p first zero h = refl
+any_none p first (suc n) h = rw (h first (omega arith) (omega arith)) (any_none p (first + 1) n (λ k a b. h k (omega arith) (omega arith)))
 
-  module _ (k : ℕ) (ahead : any p (range (first + k) (count - k)) ≡ true) where
-    pub search_turn : k < count → p (first + k) ≡ false → any p (range (first + (k + 1)) (count - (k + 1))) ≡ true
-    unfolding any range
-    search_turn h e =
-        let a : count - k ≡ suc (count - (k + 1)) = omega arith in
-        let b : first + k + 1 ≡ first + (k + 1) = omega arith in
-        rw (a, e, b) at ahead
-
-    pub search_end : count ≤ k → ⊥
-    unfolding any range
-    search_end h = let a : count - k ≡ 0 = omega arith in true≢false (sym ahead ∙ rw a)
+-- of what a search came to, where one of those searched is sought
+pub sought : (f : List ℕ) (i first count : ℕ) (r : Answer ℕ) → any (assigns_as f i) (range first count) ≡ true → first + count ≤ size f statements
+    → MatchOption r ((k : ℕ) → first ≤ k → k < first + count → assigns_as f i k ≡ false)
+    (λ k. (first ≤ k) × (k < first + count) × (assigns_as f i k ≡ true) × ((j : ℕ) → first ≤ j → j < k → assigns_as f i j ≡ false))
+    → Alike f i (unwrap_or r first)
+sought f i first count None there fits nowhere = absurd (true≢false (sym there ∙ any_none (assigns_as f i) first count nowhere))
+sought f i first count (Some k) there fits one = alike f i k one.2 (omega arith)
 
 -- ---- the value of what arithmetic set the flags by
 unfoldable used_by : Expr → Option Value
@@ -131,7 +114,7 @@ module _ (E : Edition) (f : List ℕ) (i : ℕ) where
       let r = passed is (cond (marked f j 2) (some (kind j)) o) b.1 e in
       by_test (marked f j 2) (λ m. absurd (true≢false (sym (kind_assigns j (rw m at r)) ∙ b.0))) (λ m. rw m at r)
 
-  one_of : (first count : ℕ) → view_setting E f (Result i) ≡ setter_of (last_setter none (map (stmt_at E f (all_trees E f)) (range first count)))
+  one_of : (first count : ℕ) → view_setting E f (Some (Result i)) ≡ setter_of (last_setter none (map (stmt_at E f (all_trees E f)) (range first count)))
       → any (assigns_as f i) (range first count) ≡ true
   unfolding view_setting setting setter_of result_of value_by used_by
   one_of first count e =
@@ -151,7 +134,7 @@ text_there : (t : ℕ) → text (with_text t) ≡ t
 unfolding text with_text
 text_there t = let n : length (replicate (suc t) none_of) ≡ suc t = length-replicate (suc t) none_of in omega arith
 
-pub one_assigns : (f : List ℕ) (t i first count : ℕ) (s : Setting) → s ≡ Result i
+pub one_assigns : (f : List ℕ) (t i first count : ℕ) (s : Answer Setting) → s ≡ Some (Result i)
     → ((E : Edition) → text E ≡ t → view_setting E f s ≡ setter_of (last_setter none (map (stmt_at E f (all_trees E f)) (range first count))))
     → any (assigns_as f i) (range first count) ≡ true
 one_assigns f t i first count s h says =

@@ -1,10 +1,12 @@
 -- The code's operands, comparison and condition are the definition's: what set the flags is read off the setting, the comparison off what is shown.
 use mathlib.Core.Path.{◌≡◌, refl, sym, ap, ap₂, subst, ◌∙◌}
-use mathlib.Core.Bool.{true, false, false≢true, true≢false}
+use mathlib.Core.Bool.{false}
 use mathlib.Core.Option.{Option, none, some}
 use mathlib.Core.List.{List, ◌++◌, map}
 use Prim.Native.Nat.{ℕ, ◌+◌, ◌<◌}
 use lib.ListN.{length, get_or}
+use Rattle.std.specs.Prelude.{Option as Answer, Some, None}
+use Rattle.ssa.specs.View.{view_option}
 use mir.Syntax.{w8}
 use mir.Val.{Fits as Bounded}
 use Rattle.words.proofs.Laws.{word_small}
@@ -25,12 +27,12 @@ use Rattle.values.proofs.Tables.{key_not_0, decode}
 use Rattle.values.proofs.Placed.{at_stmt}
 use Rattle.sums.specs.Ground.{Ground}
 use Rattle.sums.proofs.Naming.{stmt_inside}
-use Rattle.flags.specs.Views.{code_enum, view_code, view_setter, side_of, sign_of, shown_record, shown_by, shown_of, setting, view_setting}
+use Rattle.flags.specs.Views.{code_enum, view_code, view_setter, side_of, sign_of, printed, shown_record, shown_by, shown_of, setting, view_setting}
 use Rattle.flags.specs.declared.codes.Code.{Code}
 use Rattle.flags.specs.declared.comparison.Operands.{Operands}
 use Rattle.flags.specs.declared.comparison.Setter.TheVariants.{Result as ByResult}
 use Rattle.flags.specs.declared.comparison.Setting.{Setting}
-use Rattle.flags.specs.declared.comparison.Setting.TheVariants.{Nothing as NotSet, Operands as SetBy, Result}
+use Rattle.flags.specs.declared.comparison.Setting.TheVariants.{Operands as SetBy, Result}
 use Rattle.flags.specs.declared.comparison.Shown.{Shown}
 use Rattle.flags.proofs.Printing.{code_view}
 use Rattle.room.specs.Room.{Room, emit, emit_all, seen}
@@ -40,24 +42,22 @@ use Rattle.render.specs.Told.{NamedAt}
 use Rattle.conditions.specs.declared.operands.Operand.{Operand}
 use Rattle.conditions.specs.declared.operands.Operand.TheVariants.{Node, Assigned}
 use Rattle.conditions.specs.declared.operands.Pair.{Pair}
-use Rattle.conditions.specs.declared.operands.Found.{Found}
-use Rattle.conditions.specs.declared.operands.Found.TheVariants.{Nothing, By}
 use Rattle.conditions.specs.Assigns.{Assigns, Alike}
 use Rattle.conditions.specs.Pairs.{operand_expr, view_pair, view_found, Fit, Fits, FitsFound, Set, assigned_tokens, operand_tokens, found_tokens}
 use Rattle.conditions.specs.Printed.{view_side, view_sign, view_shown}
 
 -- ---- what was found, by the setting s
-module _ (f : List ℕ) (t first count : ℕ) (s : Setting)
+module _ (f : List ℕ) (t first count : ℕ) (s : Answer Setting)
     (says : (E : Edition) → text E ≡ t → view_setting E f s ≡ setter_of (last_setter none (map (stmt_at E f (all_trees E f)) (range first count)))) where
-  pub found_nothing : s ≡ NotSet → Set f t first count Nothing
+  pub found_nothing : (r : Answer Pair) → r ≡ None → s ≡ None → Set f t first count r
   unfolding view_found view_setting FitsFound
-  found_nothing h = record { says = λ E e. sym (ap (view_setting E f) h) ∙ says E e; fits = tt }
+  found_nothing r n h = rw n (record { says = λ E e. sym (ap (view_setting E f) h) ∙ says E e; fits = tt })
 
-  pub found_operands : (o : Operands) → s ≡ SetBy o → Set f t first count (By (record { by = o.by; left = Node o.left; right = Node o.right }))
+  pub found_operands : (o : Operands) → s ≡ Some (SetBy o) → Set f t first count (Some (record { by = o.by; left = Node o.left; right = Node o.right }))
   unfolding view_found view_pair operand_expr view_setting setting FitsFound Fit
   found_operands o h = record { says = λ E e. sym (ap (view_setting E f) h) ∙ says E e; fits = record { left = tt; right = tt } }
 
-  pub found_result : (i k : ℕ) → s ≡ Result i → Alike f i k → Set f t first count (By (record { by = ByResult; left = Assigned k; right = Assigned k }))
+  pub found_result : (i k : ℕ) → s ≡ Some (Result i) → Alike f i k → Set f t first count (Some (record { by = ByResult; left = Assigned k; right = Assigned k }))
   unfolding view_found view_pair operand_expr view_setting view_setter setting FitsFound Fit
   found_result i k h a = record {
     says = λ E e. rw (a.register, a.version) (sym (ap (view_setting E f) h) ∙ says E e);
@@ -121,42 +121,41 @@ sign_back D.Sign.not_under = refl
 sign_back D.Sign.over = refl
 sign_back D.Sign.not_over = refl
 
-module _ (c : Shown) where
-  shown_there : (o : Option D.Shown) → c ≡ shown_record o → c.there ≡ true → o ≡ some (view_shown c)
-  unfolding view_shown
-  shown_there none e h = absurd (false≢true (sym (ap (λ (z : Shown). z.there) e) ∙ h))
-  shown_there (some p) e h = rw (e, side_back p.lhs, sign_back p.sign, side_back p.rhs)
+shown_there : (c : Shown) (o : Option D.Shown) → Some c ≡ shown_record o → o ≡ some (view_shown c)
+unfolding view_shown
+shown_there c none e = Prim.cc
+shown_there c (some p) e = let h : c ≡ printed p.unsigned (side_of p.lhs) (sign_of p.sign) (side_of p.rhs) = Prim.cc in rw (h, side_back p.lhs, sign_back p.sign, side_back p.rhs)
 
-  shown_not : (o : Option D.Shown) → c ≡ shown_record o → c.there ≡ false → o ≡ none
-  shown_not none e h = refl
-  shown_not (some p) e h = absurd (true≢false (sym (ap (λ (z : Shown). z.there) e) ∙ h))
+shown_not : (o : Option D.Shown) → None ≡ shown_record o → o ≡ none
+shown_not none e = refl
+shown_not (some p) e = Prim.cc
 
 compared_by : (s : D.Setting) (o : Option D.Code) → shown_by s.by o ≡ comparison (some s) o
 unfolding shown_by comparison
 compared_by s none = refl
 compared_by s (some c) = refl
 
-module _ (E : Edition) (f : List ℕ) (p : Pair) (cc : List ℕ) (k : Code) (c : Shown) (code : k ≡ code_enum (code_of cc)) (says : c ≡ shown_record (shown_of p.by k)) (r r₀ : Room) where
+module _ (E : Edition) (f : List ℕ) (p : Pair) (cc : List ℕ) (k : Answer Code) (c : Answer Shown) (code : k ≡ code_enum (code_of cc)) (says : c ≡ shown_record (shown_of p.by k)) (r r₀ : Room) where
   asked : shown_of p.by k ≡ comparison (some (view_pair E f p)) (code_of cc)
   unfolding shown_of view_pair
-  asked = ap (λ (z : Code). shown_by (view_setter p.by) (view_code z)) code ∙ ap (shown_by (view_setter p.by)) (code_view (code_of cc)) ∙ compared_by (view_pair E f p) (code_of cc)
+  asked = ap (λ (z : Answer Code). shown_by (view_setter p.by) (view_option view_code z)) code ∙ ap (shown_by (view_setter p.by)) (code_view (code_of cc)) ∙ compared_by (view_pair E f p) (code_of cc)
 
   abbrev tokens : Option D.Shown → List Token
   tokens o = condition_of (gen_at E f (size f statements)) cc (some (view_pair E f p)) o
 
-  pub compared_there : c.there ≡ true → seen r ≡ seen (emit_all r₀ (shown_tokens (operand_tokens E f p.left) (operand_tokens E f p.right) (view_shown c)))
-      → seen r ≡ seen (emit_all r₀ (found_tokens E f (By p) cc))
+  pub compared_there : (d : Shown) → c ≡ Some d → seen r ≡ seen (emit_all r₀ (shown_tokens (operand_tokens E f p.left) (operand_tokens E f p.right) (view_shown d)))
+      → seen r ≡ seen (emit_all r₀ (found_tokens E f (Some p) cc))
   unfolding found_tokens view_found condition_of operand_tokens view_pair
-  compared_there h e = e ∙ ap (λ (o : Option D.Shown). seen (emit_all r₀ (tokens o))) (sym (shown_there c (shown_of p.by k) says h) ∙ asked)
+  compared_there d h e = e ∙ ap (λ (o : Option D.Shown). seen (emit_all r₀ (tokens o))) (sym (shown_there d (shown_of p.by k) (sym h ∙ says)) ∙ asked)
 
-  pub compared_not : c.there ≡ false → r ≡ emit r₀ (keyword (txt "__flags_" ++ cc)) → seen r ≡ seen (emit_all r₀ (found_tokens E f (By p) cc))
+  pub compared_not : c ≡ None → r ≡ emit r₀ (keyword (txt "__flags_" ++ cc)) → seen r ≡ seen (emit_all r₀ (found_tokens E f (Some p) cc))
   unfolding found_tokens view_found condition_of
   compared_not h e =
       one r r₀ (keyword (txt "__flags_" ++ cc)) e
-      ∙ ap (λ (o : Option D.Shown). seen (emit_all r₀ (tokens o))) (sym (shown_not c (shown_of p.by k) says h) ∙ asked)
+      ∙ ap (λ (o : Option D.Shown). seen (emit_all r₀ (tokens o))) (sym (shown_not (shown_of p.by k) (sym h ∙ says)) ∙ asked)
 
 -- ---- the condition, by what was found; o is where the text begins
-module _ (f : List ℕ) (t start len o : ℕ) (x : Found) (begins : o ≡ offset f t) (E : Edition) (section : text E ≡ t) (r r₀ : Room) where
+module _ (f : List ℕ) (t start len o : ℕ) (x : Answer Pair) (begins : o ≡ offset f t) (E : Edition) (section : text E ≡ t) (r r₀ : Room) where
   abbrev cc : List ℕ
   cc = part f (o + start) len
 
@@ -164,23 +163,23 @@ module _ (f : List ℕ) (t start len o : ℕ) (x : Found) (begins : o ≡ offset
   unfolding text_at
   text_is = rw (begins, ← section)
 
-  written : (y : Found) → x ≡ y → seen r ≡ seen (emit_all r₀ (found_tokens E f y cc)) → seen r ≡ seen (emit_all r₀ (found_tokens E f x (text_at E f start len)))
-  written y h e = e ∙ ap₂ (λ (l : List ℕ) (z : Found). seen (emit_all r₀ (found_tokens E f z l))) text_is (sym h)
+  written : (y : Answer Pair) → x ≡ y → seen r ≡ seen (emit_all r₀ (found_tokens E f y cc)) → seen r ≡ seen (emit_all r₀ (found_tokens E f x (text_at E f start len)))
+  written y h e = e ∙ ap₂ (λ (l : List ℕ) (z : Answer Pair). seen (emit_all r₀ (found_tokens E f z l))) text_is (sym h)
 
-  pub by_nothing : x ≡ Nothing → r ≡ emit r₀ (keyword (txt "__flags_" ++ cc)) → seen r ≡ seen (emit_all r₀ (found_tokens E f x (text_at E f start len)))
+  pub by_nothing : x ≡ None → r ≡ emit r₀ (keyword (txt "__flags_" ++ cc)) → seen r ≡ seen (emit_all r₀ (found_tokens E f x (text_at E f start len)))
   unfolding found_tokens view_found condition_of
-  by_nothing h e = written Nothing h (one r r₀ (keyword (txt "__flags_" ++ cc)) e)
+  by_nothing h e = written None h (one r r₀ (keyword (txt "__flags_" ++ cc)) e)
 
-  pub by_pair : (p : Pair) → x ≡ By p → seen r ≡ seen (emit_all r₀ (found_tokens E f (By p) cc))
+  pub by_pair : (p : Pair) → x ≡ Some p → seen r ≡ seen (emit_all r₀ (found_tokens E f (Some p) cc))
       → seen r ≡ seen (emit_all r₀ (found_tokens E f x (text_at E f start len)))
-  by_pair p h e = written (By p) h e
+  by_pair p h e = written (Some p) h e
 
-pub pair_fits : (f : List ℕ) (x : Found) (p : Pair) → FitsFound f x → x ≡ By p → Fits f p
+pub pair_fits : (f : List ℕ) (x : Answer Pair) (p : Pair) → FitsFound f x → x ≡ Some p → Fits f p
 unfolding FitsFound
 pair_fits f x p s e = subst (FitsFound f) e s
 
 -- what the statements set the flags by makes the definition's condition
-pub found_is : (f : List ℕ) (t first count : ℕ) (x : Found) → Set f t first count x → (E : Edition) → text E ≡ t → (cc : List ℕ)
+pub found_is : (f : List ℕ) (t first count : ℕ) (x : Answer Pair) → Set f t first count x → (E : Edition) → text E ≡ t → (cc : List ℕ)
     → found_tokens E f x cc ≡ condition (gen_at E f (size f statements)) (map (stmt_at E f (all_trees E f)) (range first count)) cc
 unfolding found_tokens condition
 found_is f t first count x s E e cc = ap (λ (o : Option D.Setting). condition_of (gen_at E f (size f statements)) cc o (comparison o (code_of cc))) (s.says E e)

@@ -1,14 +1,13 @@
 // The condition of a branch: the comparison that its code makes of what set the flags, or the flags by their name.
-ghost use Rattle.std.specs.Prelude.{◌≡◌};
+ghost use Rattle.std.specs.Prelude.{◌≡◌, Some};
 ghost use Rattle.definition.specs.Edition.{Edition};
 ghost use Rattle.definition.specs.Words.{part};
 ghost use Rattle.definition.specs.Contents.{text as text_of, text_at};
 ghost use Rattle.room.specs.Room.{room_of, emit_all, seen};
 ghost use Rattle.render.specs.Told.{Told};
-ghost use Rattle.conditions.specs.declared.operands.Found.TheVariants.{By};
 ghost use Rattle.conditions.specs.Pairs.{found_tokens, Fits, FitsFound};
 
-use crate::operands::{Found, Pair};
+use crate::operands::Pair;
 use crate::side::put_shown;
 use flags::codes::code_of;
 use flags::shown::shown;
@@ -36,16 +35,14 @@ fn put_compared(
     requires told { Told f.now t places numbers.now offs.now placed.now names.now }
     requires fits { Fits f.now p }
     ensures { (E : Edition) → text_of E ≡ t → seen (room_of tokens.new text.new result)
-        ≡ seen (emit_all (room_of tokens.old text.old out) (found_tokens E f.now (By p) (part f.now at n))) }
+        ≡ seen (emit_all (room_of tokens.old text.old out) (found_tokens E f.now (Some p) (part f.now at n))) }
 {
-    let by = p.by;
-    let c = shown(by, code_of(f, at, n));
-    if c.there {
-        return put_shown(
-            tokens, text, out, f, t, places, numbers, offs, placed, names, p, c,
-        );
-    }
-    put_flags(tokens, text, out, f, at, n)
+    let Some(c) = shown(p.by, code_of(f, at, n)) else {
+        return put_flags(tokens, text, out, f, at, n);
+    };
+    put_shown(
+        tokens, text, out, f, t, places, numbers, offs, placed, names, p, c,
+    )
 }
 
 // By what set the flags of the block; the code is spelled by `len` bytes of section t from `start` on.
@@ -60,7 +57,7 @@ pub fn put_condition(
     offs: &[u64],
     placed: &[u32],
     names: &[u32],
-    setter: Found,
+    setter: Option<Pair>,
     start: u32,
     len: u32,
 ) -> Out
@@ -71,7 +68,7 @@ pub fn put_condition(
 {
     let at = offset_of(f, t) as usize + start as usize;
     let n = len as usize;
-    let Found::By(p) = setter else {
+    let Some(p) = setter else {
         return put_flags(tokens, text, out, f, at, n);
     };
     put_compared(

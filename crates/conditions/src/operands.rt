@@ -30,30 +30,20 @@ pub struct Pair {
     pub right: Operand,
 }
 
-#[derive(Clone, Copy)]
-pub enum Found {
-    Nothing,
-    By(Pair),
-}
-
-// What the last marked of the block's `count` statements from `first` on set the flags by.
-pub fn operands(f: &[u8], t: u32, first: u32, count: u32) -> Found
+// What the last marked of the block's `count` statements from `first` on set the flags by, if by anything.
+pub fn operands(f: &[u8], t: u32, first: u32, count: u32) -> Option<Pair>
     requires { first + count ≤ size f.now statements }
     ensures { Set f.now t first count result }
 {
-    match setter(f, t, first, count) {
-        Setting::Nothing => Found::Nothing,
-        Setting::Operands(o) => {
-            let by = o.by;
-            Found::By(Pair {
-                by,
-                left: Operand::Node(o.left),
-                right: Operand::Node(o.right),
-            })
-        }
+    match setter(f, t, first, count)? {
+        Setting::Operands(o) => Some(Pair {
+            by: o.by,
+            left: Operand::Node(o.left),
+            right: Operand::Node(o.right),
+        }),
         Setting::Result(i) => {
             let k = assigning(f, first, count, i);
-            Found::By(Pair {
+            Some(Pair {
                 by: Setter::Result,
                 left: Operand::Assigned(k),
                 right: Operand::Assigned(k),

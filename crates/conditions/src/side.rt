@@ -13,12 +13,8 @@ use crate::operands::{Pair, put_operand};
 use flags::comparison::{Shown, Side, Sign};
 use pieces::put::{put, put_if};
 use places::Places;
+use render::kinds::{KEYWORD, PUNCT};
 use room::out::Out;
-
-// The kinds of tokens.
-const KEYWORD: u32 = 3;
-
-const PUNCT: u32 = 6;
 
 // `(LEFT op RIGHT)`
 fn put_between(

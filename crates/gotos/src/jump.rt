@@ -11,7 +11,7 @@ ghost use Rattle.gotos.specs.Written.{uses_of, stmt_line, to_block, computed_tok
 
 use crate::goto::put_goto;
 use labels::is_next;
-use lowering::kinds::{KEYWORD, PUNCT};
+use render::kinds::{KEYWORD, PUNCT};
 use lowering::line::end_stmt;
 use lowering::list::put_expr;
 use pieces::put::put;

@@ -7,7 +7,7 @@ ghost use Rattle.render.specs.Told.{Told};
 ghost use Rattle.gotos.specs.Written.{uses_of, name_tokens, return_if, call_tokens};
 
 use calls::targets::put_target;
-use lowering::kinds::{KEYWORD, PUNCT, SYMBOL, TEXT};
+use render::kinds::{KEYWORD, PUNCT, SYMBOL, TEXT};
 use lowering::list::put_items;
 use pieces::put::put;
 use places::Places;

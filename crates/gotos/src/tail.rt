@@ -9,7 +9,7 @@ ghost use Rattle.gotos.specs.Written.{uses_of, return_line, tail_of, leave_of};
 use crate::goto::name_line;
 use crate::named::put_call;
 use calls::targets::leaves_raw;
-use lowering::kinds::{ADDRESS, KEYWORD, PUNCT};
+use render::kinds::{ADDRESS, KEYWORD, PUNCT};
 use lowering::line::end_stmt;
 use pieces::put::put;
 use places::Places;

@@ -12,7 +12,7 @@ use conditions::condition::put_condition;
 use conditions::operands::Found;
 use gotos::goto::{name_line, put_goto_name};
 use labels::is_next;
-use lowering::kinds::{KEYWORD, PUNCT, SYMBOL};
+use render::kinds::{KEYWORD, PUNCT, SYMBOL};
 use lowering::line::end_stmt;
 use pieces::put::put;
 use places::Places;

@@ -2,12 +2,13 @@
 use mathlib.Core.Path.{◌≡◌, refl, sym, ap, ap₂, ◌∙◌}
 use mathlib.Core.Bool.{Bool, true, false}
 use mathlib.Core.List.{List, [], ◌∷◌, ◌++◌, map}
-use Prim.Native.Nat.{ℕ, suc, ◌+◌, ◌-◌, ◌≤◌, ◌<◌}
+use Prim.Native.Nat.{ℕ, suc, min, ◌+◌, ◌-◌, ◌≤◌, ◌<◌}
+use native.Mathlib.Decide.{dec_lt}
 use native.Mathlib.Omega.{arith}
 use lib.Dec.{ltb}
 use lib.ListN.{take}
 use lib.Seq.{take_all}
-use borrow.Author.Tests.{lt-ltb, le-ltb, ltb-true, ltb-false}
+use borrow.Author.Tests.{lt-ltb, le-ltb}
 use Rattle.definition.specs.Edition.{Edition}
 use Rattle.definition.specs.Texts.{txt}
 use Rattle.definition.specs.Lists.{gather, range}
@@ -16,14 +17,13 @@ use Rattle.definition.specs.Read.{tree_at, all_trees}
 use Rattle.definition.specs.Tokens.{Token, punct}
 use Rattle.definition.specs.Render.{e}
 use Rattle.definition.specs.Lower.{comma_list}
-use Rattle.definition.proofs.Bools.{by_test, by_cond}
 use Rattle.records.proofs.Editions.{length_range}
 use Rattle.records.proofs.Ranges.{shift, take_less, take_map}
 use Rattle.room.specs.Room.{Room, emit_all, seen}
 use Rattle.room.proofs.Laws.{more, done, pieces_are}
 use Rattle.pieces.specs.Spelled.{piece_if}
 use Rattle.lowering.specs.Lowered.{lowering_of, expr_of}
-use Rattle.lowering.specs.Commas.{arg_of, args_of, trees_of, listed, least}
+use Rattle.lowering.specs.Commas.{arg_of, args_of, trees_of, listed}
 
 -- no pieces
 pub none_are : (r : Room) (qs : List Token) → qs ≡ [] → seen r ≡ seen (emit_all r qs)
@@ -45,26 +45,14 @@ unfolding listed range
 listed_none f a = refl
 
 -- ---- the first of them
-module _ (a b : ℕ) where
-  pub least_left : a < b → a ≡ least a b
-  unfolding least
-  least_left h = rw (lt-ltb a b h)
+take_range : (c a n : ℕ) → take c (range a n) ≡ range a (min c n)
+take_range c a n = go (dec_lt c n)
+  where
+    go : Dec (c < n) → take c (range a n) ≡ range a (min c n)
+    go (yes h) = let p : min c n ≡ c = omega arith in rw p (take_less c a n (omega arith))
+    go (no h) = let p : min c n ≡ n = omega arith in rw p (take_all c (range a n) (omega (arith, length_range a n)))
 
-  pub least_right : b ≤ a → b ≡ least a b
-  unfolding least
-  least_right h = rw (le-ltb a b h)
-
-  pub least_le : least a b ≤ b
-  unfolding least
-  least_le = by_cond (λ x. x ≤ b) (ltb a b) (λ h. omega (arith, ltb-true a b h)) (λ h. omega arith)
-
-take_range : (c a n : ℕ) → take c (range a n) ≡ range a (least c n)
-unfolding least
-take_range c a n =
-    by_test (ltb c n) (λ h. rw h (take_less c a n (omega (arith, ltb-true c n h))))
-    (λ h. rw h (take_all c (range a n) (omega (arith, length_range a n, ltb-false c n h))))
-
-pub take_listed : (E : Edition) (f : List ℕ) (c a n : ℕ) → take c (trees_of E f (listed f a n)) ≡ trees_of E f (listed f a (least c n))
+pub take_listed : (E : Edition) (f : List ℕ) (c a n : ℕ) → take c (trees_of E f (listed f a n)) ≡ trees_of E f (listed f a (min c n))
 unfolding trees_of listed
 take_listed E f c a n =
     let word : ℕ → ℕ = (λ (k : ℕ). item_word f k 0) in

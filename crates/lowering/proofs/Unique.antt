@@ -11,7 +11,6 @@ use Rattle.room.specs.declared.out.Out.{Out}
 use Rattle.room.specs.Room.{Room, emit_all, seen}
 use Rattle.room.specs.Ending.{Ended}
 use Rattle.room.proofs.Unique.{end_line}
-use Rattle.lowering.specs.Commas.{least}
 
 -- put_expr, put_within, put_arg, put_items: the pieces that an edition has
 pub pieces : (ps : Edition → List Token) (E : Edition) (t : ℕ) → text E ≡ t → (r s entry : Room)
@@ -20,6 +19,3 @@ pieces ps E t section r s entry p q = p E section ∙ sym (q E section)
 
 pub end_stmt : (f : List ℕ) (i : ℕ) (l : List ℕ) (o : Out) (m m' : List ℕ) (r s : Out) → Ended l o 1 (some (stmt_long f i 0)) m r → Ended l o 1 (some (stmt_long f i 0)) m' s → (m ≡ m') × (r ≡ s)
 end_stmt f i l o = end_line l o 1 (some (stmt_long f i 0))
-
-pub least_of_lem : (a b r s : ℕ) → r ≡ least a b → s ≡ least a b → r ≡ s
-least_of_lem a b r s p q = p ∙ sym q

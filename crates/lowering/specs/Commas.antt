@@ -1,5 +1,5 @@
 -- Expressions with `, ` between them, by their numbers.
-use Rattle.std.specs.Prelude.{Bool, true, cond, List, [], ◌∷◌, ◌++◌, map, ℕ, ltb}
+use Rattle.std.specs.Prelude.{Bool, true, List, [], ◌∷◌, ◌++◌, map, ℕ}
 use Rattle.definition.specs.Edition.{Edition}
 use Rattle.definition.specs.Texts.{txt}
 use Rattle.definition.specs.Lists.{range}
@@ -25,7 +25,3 @@ trees_of E f ns = map (tree_at (all_trees E f)) ns
 -- the expressions that n list items from a on are
 unfoldable pub listed : List ℕ → ℕ → ℕ → List ℕ
 listed f a n = map (λ k. item_word f k 0) (range a n)
-
--- the lesser of two numbers, of list items to write
-unfoldable pub least : ℕ → ℕ → ℕ
-least a b = cond (ltb a b) a b

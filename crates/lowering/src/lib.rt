@@ -1,6 +1,5 @@
-// What the lowering of every kind of statement shares: what it knows, lists of expressions, a line's end, and the kinds of tokens.
+// What the lowering of every kind of statement shares: what it knows, lists of expressions, and a line's end.
 #![tactic(auto)]
 
-pub mod kinds;
 pub mod line;
 pub mod list;

@@ -8,24 +8,14 @@ ghost use Rattle.definition.specs.Lower.{comma_list};
 ghost use Rattle.room.specs.Room.{room_of, emit_all, seen};
 ghost use Rattle.render.specs.Told.{Told};
 ghost use Rattle.lowering.specs.Lowered.{lowering_of, expr_of, within_of};
-ghost use Rattle.lowering.specs.Commas.{arg_of, least};
+ghost use Rattle.lowering.specs.Commas.{arg_of};
 
-use crate::kinds::PUNCT;
 use pieces::put::{put, put_if};
 use places::Places;
 use records::contents::{STATEMENTS, item_word, size_of};
 use render::expr::expr;
+use render::kinds::PUNCT;
 use room::out::Out;
-
-// The lesser of two numbers.
-pub fn least_of(a: u32, b: u32) -> u32
-    ensures { result ≡ least a b }
-{
-    if a < b {
-        return a;
-    }
-    b
-}
 
 // Expression n. Behind the last statement every value written in place is open.
 pub fn put_expr(
@@ -124,8 +114,7 @@ pub fn put_items(
         ≡ seen (emit_all (room_of tokens.old text.old out) (comma_list (lowering_of E f.now) (map (tree_at (all_trees E f.now)) (map (λ (k : ℕ). item_word f.now (first + k) 0) (range 0 n))))) }
 {
     let mut out = out;
-    let mut k: u32 = 0;
-    while k < n {
+    for k in 0..n {
         let x = item_word(f, first + k, 0);
         out = put_arg(
             tokens,
@@ -141,7 +130,6 @@ pub fn put_items(
             x,
             0 < k,
         );
-        k += 1;
     }
     out
 }

@@ -1,6 +1,6 @@
 -- What the tables say of the value that an Assign defines, at its number: whether it is written in place, whether its class is really read, and its name.
 use mathlib.Core.Path.{◌≡◌, refl, sym, ap, ap₂, ◌∙◌}
-use mathlib.Core.Bool.{Bool, true, false, not, cond, ◌&&◌, ◌||◌}
+use mathlib.Core.Bool.{Bool, not, cond, ◌&&◌, ◌||◌}
 use mathlib.Core.List.{List}
 use Prim.Native.Nat.{ℕ, ◌+◌, ◌<◌}
 use native.Mathlib.Omega.{arith}
@@ -8,7 +8,6 @@ use lib.Dec.{eqb}
 use lib.ListN.{length, get_or}
 use mir.Syntax.{w8}
 use mir.Val.{Fits}
-use borrow.Author.Tests.{eq-eqb, ne_eqb, not-true, not-false}
 use Rattle.words.proofs.Laws.{word_small}
 use Rattle.definition.specs.Edition.{Edition, statements}
 use Rattle.definition.specs.Contents.{size, text}
@@ -16,7 +15,7 @@ use Rattle.definition.specs.Owners.{stmt_kind, stmt_field}
 use Rattle.definition.specs.Values.{Value, within, RSP}
 use Rattle.definition.specs.Meaning.{bits}
 use Rattle.definition.specs.Ssa.{Expr}
-use Rattle.definition.specs.Read.{tree_at, all_trees, marked, read}
+use Rattle.definition.specs.Read.{marked, read}
 use Rattle.definition.specs.Offsets.{offsets}
 use Rattle.definition.specs.Classes.{find, classes}
 use Rattle.definition.specs.Inline.{reads_of, inline}
@@ -45,39 +44,6 @@ use Rattle.lowering.specs.Lowered.{lowering_of}
 use Rattle.plain.specs.Classed.{Classed}
 use Rattle.plain.specs.Pieces.{becomes, target, gone_by, is_gone, restored_by, assign_of}
 use Rattle.lowering.proofs.Gen.{variable_coded}
-
--- ---- the code's tests in turn: dead as b, the register r, and what the table of places says, p
-module _ (f : List ℕ) (i p : ℕ) (b : Bool) (dead : b ≡ marked f i 1) where
-  pub gone_dead : b ≡ true → true ≡ gone_by f i p
-  unfolding gone_by
-  gone_dead h = rw (sym dead ∙ h)
-
-  module _ (alive : b ≡ false) (r : ℕ) (reg : r ≡ stmt_field f i 0) where
-    pub gone_rsp : r ≡ 4 → true ≡ gone_by f i p
-    unfolding gone_by
-    gone_rsp h = rw (sym dead ∙ alive, ← reg, eq-eqb r 4 h)
-
-    pub gone_placed : (q : ℕ) → (r ≡ 4 → ⊥) → q ≡ p → not (eqb q 0) ≡ gone_by f i p
-    unfolding gone_by
-    gone_placed q h e = rw (sym dead ∙ alive, ← reg, ne_eqb r 4 h, e)
-
--- of a register r that is callee_saved_lem as b says, whose class's root is x, marked by z
-module _ (E : Edition) (f roots marks : List ℕ) (i m : ℕ) (b : Bool) (r : ℕ) (reg : r ≡ stmt_field f i 0) (saved : b ≡ callee_saved r) where
-  abbrev loads : ℕ → Bool
-  loads n = is_stack_load (lowering_of E f) (tree_at (all_trees E f) n)
-
-  pub restore_other : not b ≡ true → false ≡ restored_by f i (at marks (at roots m)) (loads (stmt_field f i 2))
-  unfolding restored_by
-  restore_other h = rw (← reg, sym saved ∙ not-true b h)
-
-  module _ (kept : not b ≡ false) (x z : ℕ) (root : x ≡ at roots m) (mark : z ≡ at marks x) where
-    pub restore_read : (z ≡ 0 → ⊥) → false ≡ restored_by f i (at marks (at roots m)) (loads (stmt_field f i 2))
-    unfolding restored_by
-    restore_read h = rw (← reg, sym saved ∙ not-false b kept, ← root, ← mark, ne_eqb z 0 h)
-
-    pub restore_load : (n : ℕ) (d : Bool) → z ≡ 0 → n ≡ stmt_field f i 2 → d ≡ loads n → d ≡ restored_by f i (at marks (at roots m)) (loads (stmt_field f i 2))
-    unfolding restored_by
-    restore_load n d h p e = rw (← reg, sym saved ∙ not-false b kept, ← root, ← mark, eq-eqb z 0 h, ← p) e
 
 -- ---- the name
 pub name_put : (r₁ r₀ : Room) (f names : List ℕ) (i m w r c : ℕ) → w ≡ bits f → r ≡ stmt_field f i 0 → c ≡ at names m

@@ -1,6 +1,5 @@
 mod Writing
 mod Lines
-mod Silencing
 mod Loading
 mod Assigning
 mod Searching

@@ -1,24 +1,19 @@
 -- The search for the variables that an Other sets, return by return: the tests of one value, and a loop that goes on where it stopped.
 use mathlib.Core.Path.{◌≡◌, sym, ap, ◌∙◌}
-use mathlib.Core.Bool.{Bool, true, false}
 use mathlib.Core.List.{List}
 use Prim.Native.Nat.{ℕ, suc, ◌+◌, ◌-◌, ◌≤◌, ◌<◌}
 use native.Mathlib.Omega.{arith}
 use lib.ListN.{get_or}
 use mir.Syntax.{w8}
 use mir.Val.{Fits}
-use borrow.Author.Tests.{eq-eqb, ne_eqb}
 use Rattle.definition.specs.Contents.{item_word}
 use Rattle.definition.specs.Owners.{expr_items, value_items, first_item}
-use Rattle.definition.specs.Lists.{at}
 use Rattle.records.proofs.Items.{size_small}
 use Rattle.places.specs.declared.Places.{Places}
 use Rattle.places.specs.Keys.{places_of}
-use Rattle.reads.specs.Counts.{read_by}
-use Rattle.plain.specs.declared.sets.Named.{Named}
 use Rattle.plain.specs.declared.sets.Sets.{Sets}
-use Rattle.plain.specs.declared.sets.Sets.TheVariants.{Nothing, One, More}
-use Rattle.plain.specs.Asm.{Tables, tables, with_one, with_name, code_at, sets_from}
+use Rattle.plain.specs.declared.sets.Sets.TheVariants.{Nothing}
+use Rattle.plain.specs.Asm.{Tables, with_name, code_at, sets_from}
 
 -- ---- where places begin
 module _ (f : List ℕ) (bytes : (k : ℕ) → Fits w8 (get_or f k 0)) (P : Places) (are : P ≡ places_of f) where
@@ -29,43 +24,6 @@ module _ (f : List ℕ) (bytes : (k : ℕ) → Fits w8 (get_or f k 0)) (P : Plac
   pub items_low : P.items < 34359738368
   unfolding places_of
   items_low = rw are (omega (arith, size_small f bytes 0, size_small f bytes 2, size_small f bytes 3, size_small f bytes 4))
-
--- ---- one variable more
-module _ (s : Sets) (r c : ℕ) where
-  pub name_none : c ≡ 0 → s ≡ with_name s r c
-  unfolding with_name
-  name_none h = rw (eq-eqb c 0 h)
-
-  module _ (named : c ≡ 0 → ⊥) where
-    pub name_first : s ≡ Nothing → One (record { reg = r; code = c }) ≡ with_name s r c
-    unfolding with_name with_one
-    name_first e = rw (ne_eqb c 0 named, e)
-
-    pub name_second : (n : Named) → s ≡ One n → More ≡ with_name s r c
-    unfolding with_name with_one
-    name_second n e = rw (ne_eqb c 0 named, e)
-
-    pub name_more : s ≡ More → More ≡ with_name s r c
-    unfolding with_name with_one
-    name_more e = rw (ne_eqb c 0 named, e)
-
--- ---- its code
-module _ (f numbers names live phi : List ℕ) (base k r : ℕ) (reg : r ≡ item_word f k 0) where
-  abbrev T : Tables
-  T = tables numbers names live phi
-
-  pub code_rsp : r ≡ 4 → 0 ≡ code_at f T base k
-  unfolding code_at
-  code_rsp h = rw (← reg, eq-eqb r 4 h)
-
-  module _ (other : r ≡ 4 → ⊥) (m : ℕ) (number : m ≡ at numbers (base + k)) (b : Bool) (says : b ≡ read_by live phi m) where
-    pub code_read : (x : ℕ) → b ≡ true → x ≡ at names m → x ≡ code_at f T base k
-    unfolding code_at
-    code_read x h e = rw (← reg, ne_eqb r 4 other, ← number, ← says, h) e
-
-    pub code_unread : b ≡ false → 0 ≡ code_at f T base k
-    unfolding code_at
-    code_unread h = rw (← reg, ne_eqb r 4 other, ← number, ← says, h)
 
 -- ---- the loop
 module _ (f : List ℕ) (T : Tables) (base to k : ℕ) (s : Sets) where

@@ -42,20 +42,15 @@ fn is_stack_load(offs: &[u64], f: &[u8], t: u32, numbers: &[u32], places: Places
     requires offs_value { (E : Edition) → text_of E ≡ t → offs.now ≡ table f.now (length numbers.now) (look (offsets (read E f.now))) }
     ensures { (E : Edition) → text_of E ≡ t → result ≡ is_stack_load (lowering_of E f.now) (tree_at (all_trees E f.now) n) }
 {
-    if n >= size_of(f, EXPRESSIONS) {
-        return false;
-    }
-    if expr_word(f, n, 0) != LOAD {
+    if n >= size_of(f, EXPRESSIONS) || expr_word(f, n, 0) != LOAD {
         return false;
     }
     let a = expr_word(f, n, 2);
-    if a >= n {
-        return false;
-    }
-    stack_off(offs, f, t, numbers, places, a) != 0
+    a < n && stack_off(offs, f, t, numbers, places, a) != 0
 }
 
 // Whether it restores a callee-saved register, value m: a load from a slot of which no value of its class is really read.
+#[tactic(auto, unfolding(crate::specs::Pieces::restored_by))]
 fn is_restore(
     offs: &[u64],
     f: &[u8],
@@ -75,26 +70,17 @@ fn is_restore(
     let x = Register {
         number: stmt_field(f, i, 0),
     };
-    if !x.callee_saved() {
-        return false;
-    }
-    if get(marks, get(roots, m) as usize) != 0 {
-        return false;
-    }
-    is_stack_load(offs, f, t, numbers, places, stmt_field(f, i, 2))
+    x.callee_saved()
+        && get(marks, get(roots, m) as usize) == 0
+        && is_stack_load(offs, f, t, numbers, places, stmt_field(f, i, 2))
 }
 
 // Whether it is dead, RSP's, or value m is written in place.
+#[tactic(auto, unfolding(crate::specs::Pieces::gone_by))]
 fn is_gone(f: &[u8], placed: &[u32], i: u32, m: usize) -> bool
     ensures { result ≡ gone_by f.now i (at placed.now m) }
 {
-    if is_dead(f, i) {
-        return true;
-    }
-    if stmt_field(f, i, 0) == RSP {
-        return true;
-    }
-    get(placed, m) != 0
+    is_dead(f, i) || stmt_field(f, i, 0) == RSP || get(placed, m) != 0
 }
 
 // The name of what it defines, value m.

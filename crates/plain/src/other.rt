@@ -15,7 +15,6 @@ ghost use Rattle.lowering.specs.Lowered.{lowered};
 ghost use Rattle.plain.specs.Asm.{asm_block, asm_call, asm_of, other_of};
 
 use crate::sets::{Named, Sets, sets_of};
-use lowering::kinds::{KEYWORD, PUNCT, TEXT};
 use lowering::line::end_stmt;
 use meaning::meaning::bits_of;
 use pieces::from_file::put_part;
@@ -24,6 +23,7 @@ use places::Places;
 use records::contents::offset_of;
 use records::owners::{is_dead, stmt_field};
 use render::code::put_code;
+use render::kinds::{KEYWORD, PUNCT, TEXT};
 use room::out::Out;
 use ssa::parts::Text;
 
@@ -81,9 +81,8 @@ fn put_asm(tokens: &mut [u64], text: &mut [u8], out: Out, f: &[u8], t: u32, x: T
         ≡ seen (emit_all (room_of tokens.old text.old out) (asm_of (bits f.now) s (text_at E f.now x.start x.len))) }
 {
     match s {
-        Sets::Nothing => put_block(tokens, text, out, f, t, x),
         Sets::One(n) => put_call(tokens, text, out, f, t, x, n),
-        Sets::More => put_block(tokens, text, out, f, t, x),
+        Sets::Nothing | Sets::More => put_block(tokens, text, out, f, t, x),
     }
 }
 

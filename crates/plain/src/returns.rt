@@ -11,12 +11,12 @@ ghost use Rattle.render.specs.Told.{Told};
 ghost use Rattle.lowering.specs.Lowered.{lowered};
 ghost use Rattle.plain.specs.Pieces.{result_of, return_of};
 
-use lowering::kinds::{KEYWORD, PUNCT, TEXT};
 use lowering::line::end_stmt;
 use lowering::list::put_expr;
 use pieces::put::put;
 use places::Places;
 use records::owners::{is_dead, stmt_field};
+use render::kinds::{KEYWORD, PUNCT, TEXT};
 use room::out::Out;
 use words::word_at;
 
@@ -38,10 +38,7 @@ fn put_result(
     ensures { (E : Edition) → text_of E ≡ t → seen (room_of tokens.new text.new result)
         ≡ seen (emit_all (room_of tokens.old text.old out) (result_of E f.now i)) }
 {
-    if word_at(f, 8) != 1 {
-        return out;
-    }
-    if stmt_field(f, i, 0) != 1 {
+    if word_at(f, 8) != 1 || stmt_field(f, i, 0) != 1 {
         return out;
     }
     let n = stmt_field(f, i, 1);

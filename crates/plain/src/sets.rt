@@ -31,6 +31,7 @@ pub enum Sets {
 }
 
 // One more, unless it has no name.
+#[tactic(auto, unfolding(crate::specs::Asm::with_name, crate::specs::Asm::with_one))]
 fn with_name(s: Sets, reg: u32, code: u32) -> Sets
     ensures { result ≡ with_name s reg code }
 {
@@ -39,12 +40,12 @@ fn with_name(s: Sets, reg: u32, code: u32) -> Sets
     }
     match s {
         Sets::Nothing => Sets::One(Named { reg, code }),
-        Sets::One(_) => Sets::More,
-        Sets::More => Sets::More,
+        Sets::One(_) | Sets::More => Sets::More,
     }
 }
 
 // The code of the value at place k of the lists, whose places begin at `base`: 0 where it is RSP's or nobody reads it.
+#[tactic(auto, unfolding(crate::specs::Asm::code_at))]
 fn code_at(
     f: &[u8],
     numbers: &[u32],
@@ -62,9 +63,10 @@ fn code_at(
     }
     let m = number_of(numbers, base, k);
     if is_read(live, phi, m) {
-        return get(names, m);
+        get(names, m)
+    } else {
+        0
     }
-    0
 }
 
 // Of the values from place `from` on and before place `to`.
@@ -82,11 +84,9 @@ fn sets_from(
     ensures { result ≡ sets_from f.now (tables numbers.now names.now live.now phi.now) base from (to - from) Nothing }
 {
     let mut s = Sets::Nothing;
-    let mut k = from;
-    while k < to {
+    for k in from..to {
         let code = code_at(f, numbers, names, live, phi, base, k);
         s = with_name(s, item_word(f, k, 0), code);
-        k += 1;
     }
     s
 }

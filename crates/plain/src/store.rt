@@ -15,7 +15,6 @@ ghost use Rattle.lowering.specs.Lowered.{lowered};
 ghost use Rattle.plain.specs.Pieces.{is_taken, is_silent, through_of, destination_of, store_of};
 
 use calls::pushes::taken_behind;
-use lowering::kinds::PUNCT;
 use lowering::line::end_stmt;
 use lowering::list::{put_expr, put_within};
 use marks::saves::is_save;
@@ -23,23 +22,20 @@ use meaning::meaning::bits_of;
 use pieces::put::{put, put_pointer, put_slot};
 use places::Places;
 use records::owners::{is_dead, is_pushed, stmt_field};
+use render::kinds::PUNCT;
 use room::out::Out;
 use sums::address::stack_off;
 
 // Whether it is a 32-bit push that a call behind it in the block takes along.
+#[tactic(auto, unfolding(crate::specs::Pieces::is_taken))]
 fn is_taken(f: &[u8], i: u32, end: u32) -> bool
     ensures { (E : Edition) → result ≡ is_taken E f.now end i }
 {
-    if bits_of(f) != 32 {
-        return false;
-    }
-    if is_pushed(f, i) {
-        return taken_behind(f, i, end);
-    }
-    false
+    bits_of(f) == 32 && is_pushed(f, i) && taken_behind(f, i, end)
 }
 
 // Whether it prints nothing: such a push, or the prologue's save of a callee-saved register.
+#[tactic(auto, unfolding(crate::specs::Pieces::is_silent))]
 fn is_silent(
     offs: &[u64],
     f: &[u8],
@@ -53,10 +49,7 @@ fn is_silent(
     ensures { (E : Edition) (k : List Known) → text_of E ≡ t → offs.now ≡ table f.now (length numbers.now) (look k)
         → result ≡ is_silent E f.now k end i }
 {
-    if is_taken(f, i, end) {
-        return true;
-    }
-    is_save(offs, f, t, numbers, places, i)
+    is_taken(f, i, end) || is_save(offs, f, t, numbers, places, i)
 }
 
 // `*(uintN_t *)(E)`, of so many bytes.

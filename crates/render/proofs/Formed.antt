@@ -6,7 +6,7 @@ use mathlib.Core.List.{List, [], ◌∷◌}
 use Prim.Native.Nat.{ℕ, suc, ◌≤◌, ◌<◌}
 use native.Mathlib.Omega.{arith}
 use lib.Dec.{eqb, ltb}
-use borrow.Author.Tests.{lt-ltb, le-ltb, ltb-true, ltb-false, eqb-true, ne_eqb}
+use borrow.Author.Tests.{lt-ltb, le-ltb, ltb-true, ltb-false, eqb-true}
 use Rattle.definition.specs.Codes.{t_const}
 use Rattle.definition.specs.Edition.{Edition, expressions}
 use Rattle.definition.specs.Contents.{size, text, text_at, expr_word, expr_long}
@@ -197,13 +197,6 @@ module _ (E : Edition) (f : List ℕ) where
       form_is top = ap (expr G top) (tree_node n here) ∙ form_node top (node_record f n) refl
 
 -- ---- the returns of the functions that find it
-module _ (f : List ℕ) (n g : ℕ) (tag : g ≡ expr_word f n 0) where
-  pub global_other : (g ≡ 1 → ⊥) → false ≡ (eqb (expr_word f n 0) t_const && is_global (expr_long f n 1))
-  global_other h = rw (← tag, ne_eqb g 1 h)
-
-  pub global_const : (c : ℕ) (r : Bool) → g ≡ 1 → c ≡ expr_long f n 1 → r ≡ is_global c → r ≡ (eqb (expr_word f n 0) t_const && is_global (expr_long f n 1))
-  global_const c r e p q = rw (sym tag ∙ e, ← p) q
-
 module _ (f : List ℕ) (t n : ℕ) (s : LoadS) where
   pub load_high : n ≤ s.child → (E : Edition) → text E ≡ t → Through s ≡ load_form E f n s
   unfolding load_form

@@ -54,23 +54,22 @@ module _ (f : List ℕ) (i : ℕ) where
 
     module _ (t : Left n k) where
       -- the byte read is in the file
-      pub trim_inside : 0 < k → i + k - 1 < length f
+      pub trim_inside : 0 < k → i + (k - 1) < length f
       trim_inside h = omega (arith, t.inside)
 
-      pub trim_turn : 0 < k → get_or f (i + k - 1) 0 ≡ 115 → Left n (k - 1)
+      pub trim_turn : 0 < k → get_or f (i + (k - 1)) 0 ≡ 115 → Left n (k - 1)
       trim_turn h e =
-          let q : i + k - 1 ≡ i + (k - 1) = omega arith in
           record {
-            text = sym (ap (trim_end 115) (part_last k (k - 1) h t.inside refl) ∙ trim_last 115 (part f i (k - 1)) _ (ap (λ (j : ℕ). get_or f j 0) (sym q) ∙ e)) ∙ t.text;
+            text = sym (ap (trim_end 115) (part_last k (k - 1) h t.inside refl) ∙ trim_last 115 (part f i (k - 1)) _ e) ∙ t.text;
             inside = omega (arith, t.inside);
           }
 
-      pub trim_found : 0 < k → (get_or f (i + k - 1) 0 ≡ 115 → ⊥) → part f i k ≡ trim_end 115 (part f i n)
+      pub trim_found : 0 < k → (get_or f (i + (k - 1)) 0 ≡ 115 → ⊥) → part f i (k - 1 + 1) ≡ trim_end 115 (part f i n)
       trim_found h e =
-          let q : i + k - 1 ≡ i + (k - 1) = omega arith in
+          let q : k - 1 + 1 ≡ k = omega arith in
           let p = part_last k (k - 1) h t.inside refl in
-          p ∙ sym (trim_ends 115 (part f i (k - 1)) _ (λ z. e (ap (λ (j : ℕ). get_or f j 0) q ∙ z))) ∙ ap (trim_end 115) (sym p) ∙ t.text
+          ap (part f i) q ∙ p ∙ sym (trim_ends 115 (part f i (k - 1)) _ e) ∙ ap (trim_end 115) (sym p) ∙ t.text
 
-      pub trim_done : k ≡ 0 → part f i k ≡ trim_end 115 (part f i n)
+      pub trim_done : k ≡ 0 → part f i 0 ≡ trim_end 115 (part f i n)
       unfolding part trim_end
-      trim_done e = let z : part f i k ≡ trim_end 115 (part f i k) = rw e in z ∙ t.text
+      trim_done e = let z : part f i 0 ≡ trim_end 115 (part f i k) = rw e in z ∙ t.text

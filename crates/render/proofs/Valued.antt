@@ -6,7 +6,6 @@ use mathlib.Core.Option.{none, some}
 use mathlib.Core.List.{List, [], ◌∷◌}
 use Prim.Native.Nat.{ℕ, ◌+◌, ◌*◌, ◌^◌, ◌-◌, ◌≤◌, ◌<◌}
 use native.Mathlib.Omega.{arith}
-use lib.Dec.{leb}
 use lib.ListN.{length, get_or}
 use mir.Syntax.{w8}
 use mir.Val.{Fits}
@@ -47,14 +46,6 @@ use Rattle.render.proofs.Formed.{below_all}
 use Rattle.render.proofs.Falling.{falls_back}
 
 -- ---- whether a place is open
-pub open_none : (k pos : ℕ) → k ≡ 0 → false ≡ opens k pos
-unfolding opens
-open_none k pos e = rw e
-
-pub open_some : (k pos : ℕ) → (k ≡ 0 → ⊥) → leb k pos ≡ opens k pos
-unfolding opens
-open_some k pos n = rw (ne_eqb k 0 n)
-
 -- where it is, its statement
 pub was_open : (k pos : ℕ) (b : Bool) → b ≡ opens k pos → b ≡ true → Before k pos
 was_open k pos b e h = open_before k pos (sym e ∙ h)

@@ -13,7 +13,8 @@ ghost use Rattle.render.specs.Forms.{opens, rendered_below, form_tokens};
 
 use crate::code::put_code;
 use crate::form::{Form, form_of};
-use crate::leaves::{PUNCT, put_address, put_cast, put_leaf, put_nothing, put_text};
+use crate::kinds::PUNCT;
+use crate::leaves::{put_address, put_cast, put_leaf, put_nothing, put_text};
 use crate::operators::put_operator;
 use meaning::meaning::bits_of;
 use pieces::put::{put, put_if};
@@ -68,13 +69,11 @@ pub fn expr(
 }
 
 // Whether place k, which is 0, or 1 more than a statement's number, is that of a statement before `pos`.
+#[tactic(auto, unfolding(crate::specs::Forms::opens))]
 fn is_open(k: u32, pos: u32) -> bool
     ensures { result ≡ opens k pos }
 {
-    if k == 0 {
-        return false;
-    }
-    k <= pos
+    0 < k && k <= pos
 }
 
 // Expression n, where it is below b.
@@ -136,23 +135,13 @@ fn binary(
     ensures { (E : Edition) → text_section E ≡ at.t → seen (room_of tokens.new text.new result)
         ≡ seen (emit_all (room_of tokens.old text.old out) (form_tokens E f.now at.pos at.n at.top (BinForm s))) }
 {
-    let places = at.places;
     let left = Spot {
-        t: at.t,
-        places,
-        pos: at.pos,
         b: at.n,
         n: s.left,
         top: false,
+        ..at
     };
-    let right = Spot {
-        t: at.t,
-        places,
-        pos: at.pos,
-        b: at.n,
-        n: s.right,
-        top: false,
-    };
+    let right = Spot { n: s.right, ..left };
     let inner = !at.top;
     let out = put_if(tokens, text, out, PUNCT, b"(", inner);
     let out = below(tokens, text, out, f, numbers, offs, placed, names, left);
@@ -180,14 +169,11 @@ fn unary(
     ensures { (E : Edition) → text_section E ≡ at.t → seen (room_of tokens.new text.new result)
         ≡ seen (emit_all (room_of tokens.old text.old out) (form_tokens E f.now at.pos at.n at.top (UnForm s))) }
 {
-    let places = at.places;
     let child = Spot {
-        t: at.t,
-        places,
-        pos: at.pos,
         b: at.n,
         n: s.child,
         top: false,
+        ..at
     };
     let out = put_text(tokens, text, out, PUNCT, f, at.t, s.op);
     below(tokens, text, out, f, numbers, offs, placed, names, child)
@@ -212,14 +198,11 @@ fn through(
     ensures { (E : Edition) → text_section E ≡ at.t → seen (room_of tokens.new text.new result)
         ≡ seen (emit_all (room_of tokens.old text.old out) (form_tokens E f.now at.pos at.n at.top (ThroughForm s))) }
 {
-    let places = at.places;
     let child = Spot {
-        t: at.t,
-        places,
-        pos: at.pos,
         b: at.n,
         n: s.child,
         top: true,
+        ..at
     };
     let out = put_cast(tokens, text, out, s.size);
     let out = below(tokens, text, out, f, numbers, offs, placed, names, child);

@@ -12,7 +12,8 @@ ghost use Rattle.render.specs.Forms.{offset_form, load_form, form_of};
 
 use places::Places;
 use records::contents::{expr_long, expr_word};
-use ssa::node::{Bin, CONST, Load, Node, Un, node_at};
+use records::owners::CONST;
+use ssa::node::{Bin, Load, Node, Un, node_at};
 use ssa::parts::Text;
 use sums::address::stack_off;
 use text::names::is_global;
@@ -60,10 +61,7 @@ fn by_offset(o: u64, other: Form, leaf: Leaf) -> Form
 fn names_global(f: &[u8], n: u32) -> bool
     ensures { result ≡ (eqb (expr_word f.now n 0) t_const && is_global (expr_long f.now n 1)) }
 {
-    if expr_word(f, n, 0) != CONST {
-        return false;
-    }
-    is_global(expr_long(f, n, 1))
+    expr_word(f, n, 0) == CONST && is_global(expr_long(f, n, 1))
 }
 
 fn load_form(

@@ -8,15 +8,12 @@ ghost use Rattle.room.specs.Room.{room_of, emit, emit_all, seen};
 ghost use Rattle.render.specs.Forms.{address_tokens, cast_tokens, leaf_tokens};
 
 use crate::form::Leaf;
+use crate::kinds::{PUNCT, TEXT};
 use pieces::from_file::{put_global, put_part};
 use pieces::put::{put, put_num, put_pointer, put_slot};
 use records::contents::offset_of;
 use room::out::Out;
 use ssa::parts::Text;
-
-const TEXT: u32 = 0;
-
-pub const PUNCT: u32 = 6;
 
 // A text of the file's section t.
 pub fn put_text(

@@ -7,7 +7,7 @@ ghost use Rattle.definition.specs.Contents.{text as text_section, text_at};
 ghost use Rattle.definition.specs.Render.{operator};
 ghost use Rattle.room.specs.Room.{room_of, emit_all, seen};
 
-use crate::leaves::PUNCT;
+use crate::kinds::PUNCT;
 use pieces::from_file::put_part;
 use pieces::put::put;
 use records::contents::offset_of;
@@ -19,14 +19,12 @@ use words::part_size;
 fn trimmed(f: &[u8], from: usize, n: usize) -> usize
     ensures { part f.now from result ≡ trim_end 115 (part f.now from n) }
 {
-    let mut k = part_size(f, from, n);
-    while k > 0 {
-        if f[from + k - 1] != b's' {
-            return k;
+    for k in (0..part_size(f, from, n)).rev() {
+        if f[from + k] != b's' {
+            return k + 1;
         }
-        k -= 1;
     }
-    k
+    0
 }
 
 // A two-operand operator, between spaces.

@@ -2,8 +2,8 @@
 use Rattle.conditions.proofs.Pairing.{compared_there, compared_not}
 use Rattle.conditions.proofs.condition.put_compared.Goals as goal
 
-pub returns-then-c : goal.returns-then-c
-returns-then-c c = λ E e. compared_there E _ _ _ _ _ c.code_of.ensures c.shown-c.ensures _ _ c.if-c.true (c.put_shown.ensures E e)
+pub returns-in_default : goal.returns-in_default
+returns-in_default c = λ E e. compared_not E _ _ _ _ _ c.code_of.ensures c.shown.ensures _ _ c.in_default.is c.put_flags.ensures
 
 pub returns : goal.returns
-returns c = λ E e. compared_not E _ _ _ _ _ c.code_of.ensures c.shown-c.ensures _ _ c.if-c.false c.put_flags.ensures
+returns c = λ E e. compared_there E _ _ _ _ _ c.code_of.ensures c.shown.ensures _ _ _ c.in-Some.is (c.put_shown.ensures E e)

@@ -7,6 +7,3 @@ use Rattle.plain.proofs.sets.sets_from.Given as goal
 
 abbrev pub invariant-loop-k : goal.invariant-loop-k
 invariant-loop-k l = sets_from l.f (tables l.numbers l.names l.live l.phi) l.base l.from (l.to - l.from) Nothing ≡ sets_from l.f (tables l.numbers l.names l.live l.phi) l.base l.k (l.to - l.k) l.s
-
-abbrev pub decreases-loop-k : goal.decreases-loop-k
-decreases-loop-k l = l.to - l.k

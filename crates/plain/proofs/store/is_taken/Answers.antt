@@ -1,12 +1,10 @@
--- Not of 32 bits or no push, it is not taken; a 32-bit push is taken exactly where a statement behind it takes pushes.
-use Rattle.plain.proofs.Silencing.{taken_wide, taken_other, taken_is}
+-- Of 32 bits and a push, it is taken exactly where a statement behind it takes pushes.
+use native.Mathlib.Omega.{arith}
+use Rattle.std.proofs.lemmas.Grind.{common_steps}
+use Rattle.inline.specs.Placing.{behind}
+use Rattle.plain.specs.Pieces.{is_taken}
 use Rattle.plain.proofs.store.is_taken.Goals as goal
 
-pub returns-then-bits_of-ne32 : goal.returns-then-bits_of-ne32
-returns-then-bits_of-ne32 c = λ E. taken_wide E _ _ _ _ c.bits_of.ensures c.if-bits_of-ne32.true
-
 pub returns-then-is_pushed : goal.returns-then-is_pushed
-returns-then-is_pushed c = λ E. taken_is E _ _ _ _ c.bits_of.ensures c.if-bits_of-ne32.false _ c.is_pushed.ensures _ c.if-is_pushed.true (c.taken_behind.ensures E)
-
-pub returns : goal.returns
-returns c = λ E. taken_other E _ _ _ _ c.bits_of.ensures c.if-bits_of-ne32.false _ c.is_pushed.ensures c.if-is_pushed.false
+unfolding is_taken behind
+returns-then-is_pushed c = λ E. grind (arith, common_steps, c.taken_behind.ensures E)
