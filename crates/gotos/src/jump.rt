@@ -43,83 +43,40 @@ pub fn to_block(
 }
 
 // The first of n list items from `item` on, if there is one.
-fn put_first(
-    tokens: &mut [u64],
-    text: &mut [u8],
-    out: Out,
-    f: &[u8],
-    t: u32,
-    places: Places,
-    numbers: &[u32],
-    offs: &[u64],
-    placed: &[u32],
-    names: &[u32],
-    item: u32,
-    n: u32,
-) -> Out
-    requires { Told f.now t places numbers.now offs.now placed.now names.now }
-    ensures { (E : Edition) → text_of E ≡ t → seen (room_of tokens.new text.new result)
-        ≡ seen (emit_all (room_of tokens.old text.old out) (first_of (lowering_of E f.now) (uses_of E f.now item n))) }
+fn put_first(tokens: &mut [u64], text: &mut [u8], out: Out, src: &Source<'_>, item: u32, n: u32) -> Out
+    ensures { (E : Edition) → text_of E ≡ src.now.t → seen (room_of tokens.new text.new result)
+        ≡ seen (emit_all (room_of tokens.old text.old out) (first_of (lowering_of E src.now.f.now) (uses_of E src.now.f.now item n))) }
 {
     if n == 0 {
         return out;
     }
-    let x = item_word(f, item, 0);
+    let x = item_word(src.f, item, 0);
     put_expr(
-        tokens, text, out, f, t, places, numbers, offs, placed, names, x,
+        tokens, text, out, src, x,
     )
 }
 
 // `goto *E;`
-fn put_computed(
-    tokens: &mut [u64],
-    text: &mut [u8],
-    out: Out,
-    f: &[u8],
-    t: u32,
-    places: Places,
-    numbers: &[u32],
-    offs: &[u64],
-    placed: &[u32],
-    names: &[u32],
-    item: u32,
-    n: u32,
-) -> Out
-    requires { Told f.now t places numbers.now offs.now placed.now names.now }
-    ensures { (E : Edition) → text_of E ≡ t → seen (room_of tokens.new text.new result)
-        ≡ seen (emit_all (room_of tokens.old text.old out) (computed_tokens E f.now item n)) }
+fn put_computed(tokens: &mut [u64], text: &mut [u8], out: Out, src: &Source<'_>, item: u32, n: u32) -> Out
+    ensures { (E : Edition) → text_of E ≡ src.now.t → seen (room_of tokens.new text.new result)
+        ≡ seen (emit_all (room_of tokens.old text.old out) (computed_tokens E src.now.f.now item n)) }
 {
     let out = put(tokens, text, out, KEYWORD, b"goto");
     let out = put(tokens, text, out, PUNCT, b" *");
     let out = put_first(
-        tokens, text, out, f, t, places, numbers, offs, placed, names, item, n,
+        tokens, text, out, src, item, n,
     );
     put(tokens, text, out, PUNCT, b";")
 }
 
 // The line of a computed jump.
-pub fn computed(
-    lines: &mut [u64],
-    tokens: &mut [u64],
-    text: &mut [u8],
-    out: Out,
-    f: &[u8],
-    t: u32,
-    places: Places,
-    numbers: &[u32],
-    offs: &[u64],
-    placed: &[u32],
-    names: &[u32],
-    i: u32,
-    item: u32,
-) -> Out
-    requires { Told f.now t places numbers.now offs.now placed.now names.now }
-    ensures { (E : Edition) → text_of E ≡ t → seen_sheet (sheet_of lines.new tokens.new text.new result)
-        ≡ seen_sheet (write_all (sheet_of lines.old tokens.old text.old out) (stmt_line f.now i (computed_tokens E f.now item (stmt_field f.now i 6)))) }
+pub fn computed(lines: &mut [u64], tokens: &mut [u64], text: &mut [u8], out: Out, src: &Source<'_>, i: u32, item: u32) -> Out
+    ensures { (E : Edition) → text_of E ≡ src.now.t → seen_sheet (sheet_of lines.new tokens.new text.new result)
+        ≡ seen_sheet (write_all (sheet_of lines.old tokens.old text.old out) (stmt_line src.now.f.now i (computed_tokens E src.now.f.now item (stmt_field src.now.f.now i 6)))) }
 {
-    let n = stmt_field(f, i, 6);
+    let n = stmt_field(src.f, i, 6);
     let out = put_computed(
-        tokens, text, out, f, t, places, numbers, offs, placed, names, item, n,
+        tokens, text, out, src, item, n,
     );
-    end_stmt(lines, out, f, i)
+    end_stmt(lines, out, src.f, i)
 }

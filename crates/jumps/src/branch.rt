@@ -44,109 +44,56 @@ fn goal(f: &[u8], block: u32, i: u32) -> Destination
 }
 
 // To a: a block, or out of the function with n list items from `item` on as arguments.
-fn jump_to(
-    lines: &mut [u64],
-    tokens: &mut [u64],
-    text: &mut [u8],
-    out: Out,
-    f: &[u8],
-    t: u32,
-    places: Places,
-    numbers: &[u32],
-    offs: &[u64],
-    placed: &[u32],
-    names: &[u32],
-    block: u32,
-    i: u32,
-    a: u64,
-    item: u32,
-    n: u32,
-) -> Out
-    requires told { Told f.now t places numbers.now offs.now placed.now names.now }
-    requires block_bound { block < size f.now blocks }
+fn jump_to(lines: &mut [u64], tokens: &mut [u64], text: &mut [u8], out: Out, src: &Source<'_>, block: u32, i: u32, a: u64, item: u32, n: u32) -> Out
+    requires block_bound { block < size src.now.f.now blocks }
     requires n_bound { item + n < 4294967296 }
-    ensures { (E : Edition) → text_of E ≡ t → seen_sheet (sheet_of lines.new tokens.new text.new result)
-        ≡ seen_sheet (write_all (sheet_of lines.old tokens.old text.old out) (jump_of E f.now block i a (uses_of E f.now item n))) }
+    ensures { (E : Edition) → text_of E ≡ src.now.t → seen_sheet (sheet_of lines.new tokens.new text.new result)
+        ≡ seen_sheet (write_all (sheet_of lines.old tokens.old text.old out) (jump_of E src.now.f.now block i a (uses_of E src.now.f.now item n))) }
 {
-    if is_block(f, a) {
-        return to_block(lines, tokens, text, out, f, block, i, a);
+    if is_block(src.f, a) {
+        return to_block(lines, tokens, text, out, src.f, block, i, a);
     }
     leave(
-        lines, tokens, text, out, f, t, places, numbers, offs, placed, names, i, a, item, n,
+        lines, tokens, text, out, src, i, a, item, n,
     )
 }
 
 // A branch without a condition; it is computed where it goes to no address.
-fn plain_branch(
-    lines: &mut [u64],
-    tokens: &mut [u64],
-    text: &mut [u8],
-    out: Out,
-    f: &[u8],
-    t: u32,
-    places: Places,
-    numbers: &[u32],
-    offs: &[u64],
-    placed: &[u32],
-    names: &[u32],
-    block: u32,
-    i: u32,
-    item: u32,
-    count: u32,
-) -> Out
-    requires told { Told f.now t places numbers.now offs.now placed.now names.now }
-    requires branch_at { BranchAt f.now block i item }
-    ensures { (E : Edition) → text_of E ≡ t → seen_sheet (sheet_of lines.new tokens.new text.new result)
-        ≡ seen_sheet (write_all (sheet_of lines.old tokens.old text.old out) (plain_of E f.now block i item count)) }
+fn plain_branch(lines: &mut [u64], tokens: &mut [u64], text: &mut [u8], out: Out, src: &Source<'_>, block: u32, i: u32, item: u32, count: u32) -> Out
+    requires branch_at { BranchAt src.now.f.now block i item }
+    ensures { (E : Edition) → text_of E ≡ src.now.t → seen_sheet (sheet_of lines.new tokens.new text.new result)
+        ≡ seen_sheet (write_all (sheet_of lines.old tokens.old text.old out) (plain_of E src.now.f.now block i item count)) }
 {
-    let to = goal(f, block, i);
+    let to = goal(src.f, block, i);
     if to.there {
-        let n = least_of(count, stmt_field(f, i, 6));
+        let n = least_of(count, stmt_field(src.f, i, 6));
         return jump_to(
-            lines, tokens, text, out, f, t, places, numbers, offs, placed, names, block, i,
+            lines, tokens, text, out, src, block, i,
             to.address, item, n,
         );
     }
     computed(
-        lines, tokens, text, out, f, t, places, numbers, offs, placed, names, i, item,
+        lines, tokens, text, out, src, i, item,
     )
 }
 
 // Of the statement i in a block, with `count` argument registers set; its uses are list items from `item` on, and `setter` set the block's flags.
-pub fn branch(
-    lines: &mut [u64],
-    tokens: &mut [u64],
-    text: &mut [u8],
-    out: Out,
-    f: &[u8],
-    t: u32,
-    places: Places,
-    numbers: &[u32],
-    offs: &[u64],
-    placed: &[u32],
-    names: &[u32],
-    block: u32,
-    i: u32,
-    item: u32,
-    count: u32,
-    setter: Found,
-) -> Out
-    requires told { Told f.now t places numbers.now offs.now placed.now names.now }
-    requires branch_at { BranchAt f.now block i item }
-    requires set { Set f.now t (first_stmt f.now block) (block_stmts f.now block) setter }
-    ensures { (E : Edition) (pend : List Stmt) (set : List ℕ) → text_of E ≡ t → count ≡ count_set set (read E f.now).args
+pub fn branch(lines: &mut [u64], tokens: &mut [u64], text: &mut [u8], out: Out, src: &Source<'_>, block: u32, i: u32, item: u32, count: u32, setter: Found) -> Out
+    requires branch_at { BranchAt src.now.f.now block i item }
+    requires set { Set src.now.f.now src.now.t (first_stmt src.now.f.now block) (block_stmts src.now.f.now block) setter }
+    ensures { (E : Edition) (pend : List Stmt) (set : List ℕ) → text_of E ≡ src.now.t → count ≡ count_set set (read E src.now.f.now).args
         → seen_sheet (sheet_of lines.new tokens.new text.new result)
-        ≡ seen_sheet (write_all (sheet_of lines.old tokens.old text.old out) (lowered E f.now (here_at E f.now block) pend set (first_stmt f.now block + block_stmts f.now block) i)) }
+        ≡ seen_sheet (write_all (sheet_of lines.old tokens.old text.old out) (lowered E src.now.f.now (here_at E src.now.f.now block) pend set (first_stmt src.now.f.now block + block_stmts src.now.f.now block) i)) }
 {
-    if is_dead(f, i) {
+    if is_dead(src.f, i) {
         return out;
     }
-    if stmt_field(f, i, 0) == 1 {
+    if stmt_field(src.f, i, 0) == 1 {
         return conditional(
-            lines, tokens, text, out, f, t, places, numbers, offs, placed, names, block, i, setter,
+            lines, tokens, text, out, src, block, i, setter,
         );
     }
     plain_branch(
-        lines, tokens, text, out, f, t, places, numbers, offs, placed, names, block, i, item, count,
+        lines, tokens, text, out, src, block, i, item, count,
     )
 }

@@ -31,32 +31,13 @@ pub struct Walk {
 }
 
 // The statements of a block that ends before `end` and whose flags `setter` set. No pushes wait at first, and no argument register is set.
-fn stmts(
-    lines: &mut [u64],
-    tokens: &mut [u64],
-    text: &mut [u8],
-    w: Walk,
-    f: &[u8],
-    t: u32,
-    places: Places,
-    numbers: &[u32],
-    offs: &[u64],
-    placed: &[u32],
-    names: &[u32],
-    live: &[u32],
-    phi: &[u32],
-    roots: &[u32],
-    marks: &[u32],
-    block: u32,
-    end: u32,
-    setter: Found,
-) -> Walk
-    requires known { Known f.now t places numbers.now offs.now placed.now names.now live.now phi.now roots.now marks.now }
-    requires block_bound { (block < size f.now blocks) × (Stands f.now (first_stmt f.now block) w) × (end ≡ first_stmt f.now block + block_stmts f.now block) }
-    requires set { Set f.now t (first_stmt f.now block) (block_stmts f.now block) setter }
-    ensures { (Stands f.now end result) × ((E : Edition) → text_of E ≡ t
+fn stmts(lines: &mut [u64], tokens: &mut [u64], text: &mut [u8], w: Walk, src: &Source<'_>, live: &[u32], phi: &[u32], roots: &[u32], marks: &[u32], block: u32, end: u32, setter: Found) -> Walk
+    requires known { Known src.now.f.now src.now.t src.now.places src.now.numbers.now src.now.offs.now src.now.placed.now src.now.names.now live.now phi.now roots.now marks.now }
+    requires block_bound { (block < size src.now.f.now blocks) × (Stands src.now.f.now (first_stmt src.now.f.now block) w) × (end ≡ first_stmt src.now.f.now block + block_stmts src.now.f.now block) }
+    requires set { Set src.now.f.now src.now.t (first_stmt src.now.f.now block) (block_stmts src.now.f.now block) setter }
+    ensures { (Stands src.now.f.now end result) × ((E : Edition) → text_of E ≡ src.now.t
         → seen_sheet (sheet_of lines.new tokens.new text.new result.out)
-        ≡ seen_sheet (write_all (sheet_of lines.old tokens.old text.old w.out) (lower_stmts (lowering_of E f.now) (here_at E f.now block) [] [] (here_at E f.now block).block.stmts))) }
+        ≡ seen_sheet (write_all (sheet_of lines.old tokens.old text.old w.out) (lower_stmts (lowering_of E src.now.f.now) (here_at E src.now.f.now block) [] [] (here_at E src.now.f.now block).block.stmts))) }
 {
     let mut out = w.out;
     let mut item = w.item;
@@ -65,12 +46,12 @@ fn stmts(
     let mut i = w.stmt;
     while i < end {
         out = stmt(
-            lines, tokens, text, out, f, t, places, numbers, offs, placed, names, live, phi, roots,
+            lines, tokens, text, out, src, live, phi, roots,
             marks, block, i, end, item, from, count, setter,
         );
-        item = next_item(f, i, item);
-        from = from_behind(f, i, from);
-        count = set_behind(f, i, count);
+        item = next_item(src.f, i, item);
+        from = from_behind(src.f, i, from);
+        count = set_behind(src.f, i, count);
         i += 1;
     }
     Walk {
@@ -80,37 +61,19 @@ fn stmts(
     }
 }
 
-pub fn lower_block(
-    lines: &mut [u64],
-    tokens: &mut [u64],
-    text: &mut [u8],
-    w: Walk,
-    f: &[u8],
-    t: u32,
-    places: Places,
-    numbers: &[u32],
-    offs: &[u64],
-    placed: &[u32],
-    names: &[u32],
-    live: &[u32],
-    phi: &[u32],
-    roots: &[u32],
-    marks: &[u32],
-    labels: &[u32],
-    block: u32,
-) -> Walk
-    requires known { Known f.now t places numbers.now offs.now placed.now names.now live.now phi.now roots.now marks.now }
-    requires labels { Labels f.now (length labels.now) labels.now }
-    requires block_bound { (block < size f.now blocks) × (Stands f.now (first_stmt f.now block) w) }
-    ensures { (Stands f.now (first_stmt f.now (block + 1)) result) × ((E : Edition) → text_of E ≡ t
+pub fn lower_block(lines: &mut [u64], tokens: &mut [u64], text: &mut [u8], w: Walk, src: &Source<'_>, live: &[u32], phi: &[u32], roots: &[u32], marks: &[u32], labels: &[u32], block: u32) -> Walk
+    requires known { Known src.now.f.now src.now.t src.now.places src.now.numbers.now src.now.offs.now src.now.placed.now src.now.names.now live.now phi.now roots.now marks.now }
+    requires labels { Labels src.now.f.now (length labels.now) labels.now }
+    requires block_bound { (block < size src.now.f.now blocks) × (Stands src.now.f.now (first_stmt src.now.f.now block) w) }
+    ensures { (Stands src.now.f.now (first_stmt src.now.f.now (block + 1)) result) × ((E : Edition) → text_of E ≡ src.now.t
         → seen_sheet (sheet_of lines.new tokens.new text.new result.out)
-        ≡ seen_sheet (write_all (sheet_of lines.old tokens.old text.old w.out) (lower_block (lowering_of E f.now) (here_at E f.now block)))) }
+        ≡ seen_sheet (write_all (sheet_of lines.old tokens.old text.old w.out) (lower_block (lowering_of E src.now.f.now) (here_at E src.now.f.now block)))) }
 {
     let first = w.stmt;
-    let n = block_stmts(f, block);
-    let leaves = last_leaves(f, first, n);
-    let setter = operands(f, t, first, n);
-    let out = label(lines, tokens, text, w.out, f, labels, block);
+    let n = block_stmts(src.f, block);
+    let leaves = last_leaves(src.f, first, n);
+    let setter = operands(src.f, src.t, first, n);
+    let out = label(lines, tokens, text, w.out, src.f, labels, block);
     let begun = Walk {
         out: out,
         stmt: first,
@@ -121,13 +84,7 @@ pub fn lower_block(
         tokens,
         text,
         begun,
-        f,
-        t,
-        places,
-        numbers,
-        offs,
-        placed,
-        names,
+        src,
         live,
         phi,
         roots,
@@ -136,7 +93,7 @@ pub fn lower_block(
         first + n,
         setter,
     );
-    let out = closing(lines, tokens, text, v.out, f, block, leaves);
+    let out = closing(lines, tokens, text, v.out, src.f, block, leaves);
     Walk {
         out: out,
         stmt: v.stmt,

@@ -23,72 +23,49 @@ use room::out::Out;
 use statements::statement::{Kind, stmt_at};
 
 // Statement i of a block, with `count` argument registers set; its list items begin at `item`, pushes wait from statement `from` on, `setter` set the block's flags.
-pub fn stmt(
-    lines: &mut [u64],
-    tokens: &mut [u64],
-    text: &mut [u8],
-    out: Out,
-    f: &[u8],
-    t: u32,
-    places: Places,
-    numbers: &[u32],
-    offs: &[u64],
-    placed: &[u32],
-    names: &[u32],
-    live: &[u32],
-    phi: &[u32],
-    roots: &[u32],
-    marks: &[u32],
-    block: u32,
-    i: u32,
-    end: u32,
-    item: u32,
-    from: u32,
-    count: u32,
-    setter: Found,
-) -> Out
-    requires known { Known f.now t places numbers.now offs.now placed.now names.now live.now phi.now roots.now marks.now }
-    requires stmt_at { StmtAt f.now block i end item }
-    requires set { Set f.now t (first_stmt f.now block) (block_stmts f.now block) setter }
-    ensures { (E : Edition) (set : List ℕ) → text_of E ≡ t → count ≡ count_set set (read E f.now).args
+pub fn stmt(lines: &mut [u64], tokens: &mut [u64], text: &mut [u8], out: Out, src: &Source<'_>, live: &[u32], phi: &[u32], roots: &[u32], marks: &[u32], block: u32, i: u32, end: u32, item: u32, from: u32, count: u32, setter: Found) -> Out
+    requires known { Known src.now.f.now src.now.t src.now.places src.now.numbers.now src.now.offs.now src.now.placed.now src.now.names.now live.now phi.now roots.now marks.now }
+    requires stmt_at { StmtAt src.now.f.now block i end item }
+    requires set { Set src.now.f.now src.now.t (first_stmt src.now.f.now block) (block_stmts src.now.f.now block) setter }
+    ensures { (E : Edition) (set : List ℕ) → text_of E ≡ src.now.t → count ≡ count_set set (read E src.now.f.now).args
         → seen_sheet (sheet_of lines.new tokens.new text.new result)
-        ≡ seen_sheet (write_all (sheet_of lines.old tokens.old text.old out) (lowered E f.now (here_at E f.now block) (pending E f.now from i) set end i)) }
+        ≡ seen_sheet (write_all (sheet_of lines.old tokens.old text.old out) (lowered E src.now.f.now (here_at E src.now.f.now block) (pending E src.now.f.now from i) set end i)) }
 {
-    let s = stmt_at(f, i, item);
+    let s = stmt_at(src.f, i, item);
     let kind = s.kind;
     match kind {
         Kind::Assign(_) => {
             assign(
-                lines, tokens, text, out, f, t, places, numbers, offs, placed, names, roots, marks,
+                lines, tokens, text, out, src, roots, marks,
                 i, end,
             )
         }
         Kind::Store(_) => {
             store(
-                lines, tokens, text, out, f, t, places, numbers, offs, placed, names, i, end,
+                lines, tokens, text, out, src, i, end,
             )
         }
         Kind::Call(_) => {
             call(
-                lines, tokens, text, out, f, t, places, numbers, offs, placed, names, live, phi, i,
+                lines, tokens, text, out, src, live, phi, i,
                 item, from, count,
             )
         }
         Kind::Branch(_) => {
             branch(
-                lines, tokens, text, out, f, t, places, numbers, offs, placed, names, block, i,
+                lines, tokens, text, out, src, block, i,
                 item, count, setter,
             )
         }
         Kind::Flags(_) => out,
         Kind::Return(_) => {
             returns(
-                lines, tokens, text, out, f, t, places, numbers, offs, placed, names, i, end,
+                lines, tokens, text, out, src, i, end,
             )
         }
         Kind::Other(_) => {
             other(
-                lines, tokens, text, out, f, t, places, numbers, offs, placed, names, live, phi, i,
+                lines, tokens, text, out, src, live, phi, i,
                 end, item,
             )
         }

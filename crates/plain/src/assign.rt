@@ -117,66 +117,36 @@ fn put_name(
     put_code(tokens, text, out, width, reg, code)
 }
 
-fn put_assign(
-    tokens: &mut [u64],
-    text: &mut [u8],
-    out: Out,
-    f: &[u8],
-    t: u32,
-    places: Places,
-    numbers: &[u32],
-    offs: &[u64],
-    placed: &[u32],
-    names: &[u32],
-    i: u32,
-) -> Out
-    requires told { Told f.now t places numbers.now offs.now placed.now names.now }
-    requires i_value { (stmt_kind f.now i ≡ k_assign) × (i < size f.now statements) }
-    ensures { (E : Edition) → text_of E ≡ t → seen (room_of tokens.new text.new result)
-        ≡ seen (emit_all (room_of tokens.old text.old out) (assign_of E f.now i)) }
+fn put_assign(tokens: &mut [u64], text: &mut [u8], out: Out, src: &Source<'_>, i: u32) -> Out
+    requires i_value { (stmt_kind src.now.f.now i ≡ k_assign) × (i < size src.now.f.now statements) }
+    ensures { (E : Edition) → text_of E ≡ src.now.t → seen (room_of tokens.new text.new result)
+        ≡ seen (emit_all (room_of tokens.old text.old out) (assign_of E src.now.f.now i)) }
 {
-    let n = stmt_field(f, i, 2);
-    let m = number_of(numbers, places.stmts, i);
-    let out = put_name(tokens, text, out, f, names, i, m);
+    let n = stmt_field(src.f, i, 2);
+    let m = number_of(src.numbers, src.places.stmts, i);
+    let out = put_name(tokens, text, out, src.f, src.names, i, m);
     put_within(
-        tokens, text, out, f, t, places, numbers, offs, placed, names, b" = ", n, b";",
+        tokens, text, out, src, b" = ", n, b";",
     )
 }
 
-pub fn assign(
-    lines: &mut [u64],
-    tokens: &mut [u64],
-    text: &mut [u8],
-    out: Out,
-    f: &[u8],
-    t: u32,
-    places: Places,
-    numbers: &[u32],
-    offs: &[u64],
-    placed: &[u32],
-    names: &[u32],
-    roots: &[u32],
-    marks: &[u32],
-    i: u32,
-    end: u32,
-) -> Out
-    requires told { Told f.now t places numbers.now offs.now placed.now names.now }
-    requires i_value { stmt_kind f.now i ≡ k_assign }
-    requires i_lt_end { (i < end) × (end ≤ size f.now statements) }
-    requires classed { Classed f.now t (length numbers.now) offs.now roots.now marks.now }
-    ensures { (E : Edition) (H : Here) (pend : List Stmt) (set : List ℕ) → text_of E ≡ t
+pub fn assign(lines: &mut [u64], tokens: &mut [u64], text: &mut [u8], out: Out, src: &Source<'_>, roots: &[u32], marks: &[u32], i: u32, end: u32) -> Out
+    requires i_value { stmt_kind src.now.f.now i ≡ k_assign }
+    requires i_lt_end { (i < end) × (end ≤ size src.now.f.now statements) }
+    requires classed { Classed src.now.f.now src.now.t (length src.now.numbers.now) src.now.offs.now roots.now marks.now }
+    ensures { (E : Edition) (H : Here) (pend : List Stmt) (set : List ℕ) → text_of E ≡ src.now.t
         → seen_sheet (sheet_of lines.new tokens.new text.new result)
-        ≡ seen_sheet (write_all (sheet_of lines.old tokens.old text.old out) (lowered E f.now H pend set end i)) }
+        ≡ seen_sheet (write_all (sheet_of lines.old tokens.old text.old out) (lowered E src.now.f.now H pend set end i)) }
 {
-    let m = number_of(numbers, places.stmts, i);
-    if is_gone(f, placed, i, m) {
+    let m = number_of(src.numbers, src.places.stmts, i);
+    if is_gone(src.f, src.placed, i, m) {
         return out;
     }
-    if is_restore(offs, f, t, numbers, places, roots, marks, i, m) {
+    if is_restore(src.offs, src.f, src.t, src.numbers, src.places, roots, marks, i, m) {
         return out;
     }
     let out = put_assign(
-        tokens, text, out, f, t, places, numbers, offs, placed, names, i,
+        tokens, text, out, src, i,
     );
-    end_stmt(lines, out, f, i)
+    end_stmt(lines, out, src.f, i)
 }

@@ -6,3 +6,4 @@ pub mod expr;
 mod form;
 mod leaves;
 mod operators;
+pub mod source;
