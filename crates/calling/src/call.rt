@@ -6,7 +6,6 @@ ghost use Rattle.definition.specs.Read.{read};
 ghost use Rattle.definition.specs.Lower.{Here, count_set};
 ghost use Rattle.room.specs.Room.{room_of, emit_all, seen, sheet_of, write_all, seen_sheet};
 ghost use Rattle.reads.specs.Counts.{LiveReads, PhiReads};
-ghost use Rattle.render.specs.Told.{Told};
 ghost use Rattle.lowering.specs.Lowered.{lowered};
 ghost use Rattle.calls.specs.Waiting.{pending};
 ghost use Rattle.calling.specs.Given.{CallAt};
@@ -18,31 +17,61 @@ use crate::result::put_result;
 use lowering::kinds::PUNCT;
 use lowering::line::end_stmt;
 use pieces::put::put;
-use places::Places;
 use records::owners::is_dead;
+use render::source::Source;
 use room::out::Out;
 
 // Its tokens.
-fn put_call(tokens: &mut [u64], text: &mut [u8], out: Out, src: &Source<'_>, live: &[u32], phi: &[u32], i: u32, item: u32, from: u32, count: u32) -> Out
+fn put_call(
+    tokens: &mut [u64],
+    text: &mut [u8],
+    out: Out,
+    src: &Source<'_>,
+    live: &[u32],
+    phi: &[u32],
+    i: u32,
+    item: u32,
+    from: u32,
+    count: u32,
+) -> Out
     requires live_reads { LiveReads src.now.f.now (length src.now.numbers.now) live.now }
     requires phi_reads { PhiReads src.now.f.now (length src.now.numbers.now) phi.now }
     requires call_at { CallAt src.now.f.now i item }
     ensures { (E : Edition) → text_of E ≡ src.now.t → seen (room_of tokens.new text.new result)
         ≡ seen (emit_all (room_of tokens.old text.old out) (call_of E src.now.f.now i item from count)) }
 {
-    let out = put_result(tokens, text, out, src.f, src.places, src.numbers, src.names, live, phi, i);
-    let out = put_target(
-        tokens, text, out, src, i, item,
+    let out = put_result(
+        tokens,
+        text,
+        out,
+        src.f,
+        src.places,
+        src.numbers,
+        src.names,
+        live,
+        phi,
+        i,
     );
+    let out = put_target(tokens, text, out, src, i, item);
     let out = put(tokens, text, out, PUNCT, b"(");
-    let out = put_args(
-        tokens, text, out, src, i, item, from, count,
-    );
+    let out = put_args(tokens, text, out, src, i, item, from, count);
     put(tokens, text, out, PUNCT, b");")
 }
 
 // Statement i, a call whose list items begin at `item`, with the pushes from statement `from` on and `count` argument registers set.
-pub fn call(lines: &mut [u64], tokens: &mut [u64], text: &mut [u8], out: Out, src: &Source<'_>, live: &[u32], phi: &[u32], i: u32, item: u32, from: u32, count: u32) -> Out
+pub fn call(
+    lines: &mut [u64],
+    tokens: &mut [u64],
+    text: &mut [u8],
+    out: Out,
+    src: &Source<'_>,
+    live: &[u32],
+    phi: &[u32],
+    i: u32,
+    item: u32,
+    from: u32,
+    count: u32,
+) -> Out
     requires live_reads { LiveReads src.now.f.now (length src.now.numbers.now) live.now }
     requires phi_reads { PhiReads src.now.f.now (length src.now.numbers.now) phi.now }
     requires call_at { CallAt src.now.f.now i item }
@@ -53,9 +82,6 @@ pub fn call(lines: &mut [u64], tokens: &mut [u64], text: &mut [u8], out: Out, sr
     if is_dead(src.f, i) {
         return out;
     }
-    let out = put_call(
-        tokens, text, out, src, live, phi, i, item, from,
-        count,
-    );
+    let out = put_call(tokens, text, out, src, live, phi, i, item, from, count);
     end_stmt(lines, out, src.f, i)
 }

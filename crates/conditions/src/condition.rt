@@ -4,7 +4,6 @@ ghost use Rattle.definition.specs.Edition.{Edition};
 ghost use Rattle.definition.specs.Words.{part};
 ghost use Rattle.definition.specs.Contents.{text as text_of, text_at};
 ghost use Rattle.room.specs.Room.{room_of, emit_all, seen};
-ghost use Rattle.render.specs.Told.{Told};
 ghost use Rattle.conditions.specs.declared.operands.Found.TheVariants.{By};
 ghost use Rattle.conditions.specs.Pairs.{found_tokens, Fits, FitsFound};
 
@@ -13,29 +12,43 @@ use crate::side::put_shown;
 use flags::codes::code_of;
 use flags::shown::shown;
 use pieces::from_file::put_flags;
-use places::Places;
 use records::contents::offset_of;
+use render::source::Source;
 use room::out::Out;
 
 // By the operands p and the code that n bytes of the file from `at` on spell.
-fn put_compared(tokens: &mut [u64], text: &mut [u8], out: Out, src: &Source<'_>, p: Pair, at: usize, n: usize) -> Out
-    requires fits { Fits src.now.f.now p }
+fn put_compared(
+    tokens: &mut [u64],
+    text: &mut [u8],
+    out: Out,
+    src: &Source<'_>,
+    p: Pair,
+    at: usize,
+    n: usize,
+) -> Out
+    requires { Fits src.now.f.now p }
     ensures { (E : Edition) → text_of E ≡ src.now.t → seen (room_of tokens.new text.new result)
         ≡ seen (emit_all (room_of tokens.old text.old out) (found_tokens E src.now.f.now (By p) (part src.now.f.now at n))) }
 {
     let by = p.by;
     let c = shown(by, code_of(src.f, at, n));
     if c.there {
-        return put_shown(
-            tokens, text, out, src, p, c,
-        );
+        return put_shown(tokens, text, out, src, p, c);
     }
     put_flags(tokens, text, out, src.f, at, n)
 }
 
 // By what set the flags of the block; the code is spelled by `len` bytes of section t from `start` on.
-pub fn put_condition(tokens: &mut [u64], text: &mut [u8], out: Out, src: &Source<'_>, setter: Found, start: u32, len: u32) -> Out
-    requires fits_found { FitsFound src.now.f.now setter }
+pub fn put_condition(
+    tokens: &mut [u64],
+    text: &mut [u8],
+    out: Out,
+    src: &Source<'_>,
+    setter: Found,
+    start: u32,
+    len: u32,
+) -> Out
+    requires { FitsFound src.now.f.now setter }
     ensures { (E : Edition) → text_of E ≡ src.now.t → seen (room_of tokens.new text.new result)
         ≡ seen (emit_all (room_of tokens.old text.old out) (found_tokens E src.now.f.now setter (text_at E src.now.f.now start len))) }
 {
@@ -44,7 +57,5 @@ pub fn put_condition(tokens: &mut [u64], text: &mut [u8], out: Out, src: &Source
     let Found::By(p) = setter else {
         return put_flags(tokens, text, out, src.f, at, n);
     };
-    put_compared(
-        tokens, text, out, src, p, at, n,
-    )
+    put_compared(tokens, text, out, src, p, at, n)
 }

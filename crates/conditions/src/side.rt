@@ -5,14 +5,13 @@ ghost use Rattle.definition.specs.Contents.{text as text_of};
 ghost use Rattle.definition.specs.Tokens.{punct};
 ghost use Rattle.definition.specs.Condition.{sign_text, side_tokens, shown_tokens};
 ghost use Rattle.room.specs.Room.{room_of, emit, emit_all, seen};
-ghost use Rattle.render.specs.Told.{Told};
 ghost use Rattle.conditions.specs.Pairs.{operand_tokens, Fits};
 ghost use Rattle.conditions.specs.Printed.{view_side, view_sign, view_shown, between};
 
 use crate::operands::{Pair, put_operand};
 use flags::comparison::{Shown, Side, Sign};
 use pieces::put::{put, put_if};
-use places::Places;
+use render::source::Source;
 use room::out::Out;
 
 // The kinds of tokens.
@@ -21,8 +20,15 @@ const KEYWORD: u32 = 3;
 const PUNCT: u32 = 6;
 
 // `(LEFT op RIGHT)`
-fn put_between(tokens: &mut [u64], text: &mut [u8], out: Out, src: &Source<'_>, p: Pair, op: &[u8]) -> Out
-    requires fits { Fits src.now.f.now p }
+fn put_between(
+    tokens: &mut [u64],
+    text: &mut [u8],
+    out: Out,
+    src: &Source<'_>,
+    p: Pair,
+    op: &[u8],
+) -> Out
+    requires { Fits src.now.f.now p }
     ensures { (E : Edition) → text_of E ≡ src.now.t → seen (room_of tokens.new text.new result)
         ≡ seen (emit_all (room_of tokens.old text.old out)
         (between (operand_tokens E src.now.f.now p.left) (operand_tokens E src.now.f.now p.right) op.now)) }
@@ -30,18 +36,21 @@ fn put_between(tokens: &mut [u64], text: &mut [u8], out: Out, src: &Source<'_>, 
     let left = p.left;
     let right = p.right;
     let out = put(tokens, text, out, PUNCT, b"(");
-    let out = put_operand(
-        tokens, text, out, src, left,
-    );
+    let out = put_operand(tokens, text, out, src, left);
     let out = put(tokens, text, out, PUNCT, op);
-    let out = put_operand(
-        tokens, text, out, src, right,
-    );
+    let out = put_operand(tokens, text, out, src, right);
     put(tokens, text, out, PUNCT, b")")
 }
 
-fn put_side(tokens: &mut [u64], text: &mut [u8], out: Out, src: &Source<'_>, p: Pair, side: Side) -> Out
-    requires fits { Fits src.now.f.now p }
+fn put_side(
+    tokens: &mut [u64],
+    text: &mut [u8],
+    out: Out,
+    src: &Source<'_>,
+    p: Pair,
+    side: Side,
+) -> Out
+    requires { Fits src.now.f.now p }
     ensures { (E : Edition) → text_of E ≡ src.now.t → seen (room_of tokens.new text.new result)
         ≡ seen (emit_all (room_of tokens.old text.old out)
         (side_tokens (operand_tokens E src.now.f.now p.left) (operand_tokens E src.now.f.now p.right) (view_side side))) }
@@ -49,26 +58,14 @@ fn put_side(tokens: &mut [u64], text: &mut [u8], out: Out, src: &Source<'_>, p: 
     match side {
         Side::Left => {
             let x = p.left;
-            put_operand(
-                tokens, text, out, src, x,
-            )
+            put_operand(tokens, text, out, src, x)
         }
         Side::Right => {
             let x = p.right;
-            put_operand(
-                tokens, text, out, src, x,
-            )
+            put_operand(tokens, text, out, src, x)
         }
-        Side::Difference => {
-            put_between(
-                tokens, text, out, src, p, b" - ",
-            )
-        }
-        Side::Both => {
-            put_between(
-                tokens, text, out, src, p, b" & ",
-            )
-        }
+        Side::Difference => { put_between(tokens, text, out, src, p, b" - ") }
+        Side::Both => { put_between(tokens, text, out, src, p, b" & ") }
         Side::Nought => put(tokens, text, out, PUNCT, b"0"),
     }
 }
@@ -88,8 +85,15 @@ fn put_sign(tokens: &mut [u64], text: &mut [u8], out: Out, sign: Sign) -> Out
 }
 
 // The comparison c of the operands p.
-pub fn put_shown(tokens: &mut [u64], text: &mut [u8], out: Out, src: &Source<'_>, p: Pair, c: Shown) -> Out
-    requires fits { Fits src.now.f.now p }
+pub fn put_shown(
+    tokens: &mut [u64],
+    text: &mut [u8],
+    out: Out,
+    src: &Source<'_>,
+    p: Pair,
+    c: Shown,
+) -> Out
+    requires { Fits src.now.f.now p }
     ensures { (E : Edition) → text_of E ≡ src.now.t → seen (room_of tokens.new text.new result)
         ≡ seen (emit_all (room_of tokens.old text.old out)
         (shown_tokens (operand_tokens E src.now.f.now p.left) (operand_tokens E src.now.f.now p.right) (view_shown c))) }
@@ -98,11 +102,7 @@ pub fn put_shown(tokens: &mut [u64], text: &mut [u8], out: Out, src: &Source<'_>
     let sign = c.sign;
     let rhs = c.rhs;
     let out = put_if(tokens, text, out, KEYWORD, b"(unsigned)", c.unsigned);
-    let out = put_side(
-        tokens, text, out, src, p, lhs,
-    );
+    let out = put_side(tokens, text, out, src, p, lhs);
     let out = put_sign(tokens, text, out, sign);
-    put_side(
-        tokens, text, out, src, p, rhs,
-    )
+    put_side(tokens, text, out, src, p, rhs)
 }

@@ -3,27 +3,32 @@ ghost use Rattle.std.specs.Prelude.{◌≡◌, ◌+◌, ◌<◌};
 ghost use Rattle.definition.specs.Edition.{Edition};
 ghost use Rattle.definition.specs.Contents.{text as text_of};
 ghost use Rattle.room.specs.Room.{room_of, emit_all, seen};
-ghost use Rattle.render.specs.Told.{Told};
 ghost use Rattle.gotos.specs.Written.{uses_of, name_tokens, return_if, call_tokens};
 
 use calls::targets::put_target;
 use lowering::kinds::{KEYWORD, PUNCT, SYMBOL, TEXT};
 use lowering::list::put_items;
 use pieces::put::put;
-use places::Places;
+use render::source::Source;
 use room::out::Out;
 
 // `NAME(ARGS)`, with n list items from `item` on.
-fn put_named(tokens: &mut [u64], text: &mut [u8], out: Out, src: &Source<'_>, a: u64, item: u32, n: u32) -> Out
-    requires n_bound { item + n < 4294967296 }
+fn put_named(
+    tokens: &mut [u64],
+    text: &mut [u8],
+    out: Out,
+    src: &Source<'_>,
+    a: u64,
+    item: u32,
+    n: u32,
+) -> Out
+    requires { item + n < 4294967296 }
     ensures { (E : Edition) → text_of E ≡ src.now.t → seen (room_of tokens.new text.new result)
         ≡ seen (emit_all (room_of tokens.old text.old out) (name_tokens E src.now.f.now a (uses_of E src.now.f.now item n))) }
 {
     let out = put_target(tokens, text, out, SYMBOL, src.f, src.t, a);
     let out = put(tokens, text, out, PUNCT, b"(");
-    let out = put_items(
-        tokens, text, out, src, item, n,
-    );
+    let out = put_items(tokens, text, out, src, item, n);
     put(tokens, text, out, PUNCT, b")")
 }
 
@@ -40,14 +45,21 @@ fn put_return_if(tokens: &mut [u64], text: &mut [u8], out: Out, returns: bool) -
 }
 
 // `return NAME(ARGS);`, or `NAME(ARGS);`
-pub fn put_call(tokens: &mut [u64], text: &mut [u8], out: Out, src: &Source<'_>, a: u64, item: u32, n: u32, returns: bool) -> Out
-    requires n_bound { item + n < 4294967296 }
+pub fn put_call(
+    tokens: &mut [u64],
+    text: &mut [u8],
+    out: Out,
+    src: &Source<'_>,
+    a: u64,
+    item: u32,
+    n: u32,
+    returns: bool,
+) -> Out
+    requires { item + n < 4294967296 }
     ensures { (E : Edition) → text_of E ≡ src.now.t → seen (room_of tokens.new text.new result)
         ≡ seen (emit_all (room_of tokens.old text.old out) (call_tokens E src.now.f.now a returns (uses_of E src.now.f.now item n))) }
 {
     let out = put_return_if(tokens, text, out, returns);
-    let out = put_named(
-        tokens, text, out, src, a, item, n,
-    );
+    let out = put_named(tokens, text, out, src, a, item, n);
     put(tokens, text, out, PUNCT, b";")
 }

@@ -3,7 +3,6 @@ ghost use Rattle.std.specs.Prelude.{◌≡◌, ◌+◌, ◌<◌};
 ghost use Rattle.definition.specs.Edition.{Edition};
 ghost use Rattle.definition.specs.Contents.{text as text_of};
 ghost use Rattle.room.specs.Room.{sheet_of, write_all, seen_sheet};
-ghost use Rattle.render.specs.Told.{Told};
 ghost use Rattle.gotos.specs.Written.{uses_of, return_line, tail_of, leave_of};
 
 use crate::goto::name_line;
@@ -12,7 +11,7 @@ use calls::targets::leaves_raw;
 use lowering::kinds::{ADDRESS, KEYWORD, PUNCT};
 use lowering::line::end_stmt;
 use pieces::put::put;
-use places::Places;
+use render::source::Source;
 use room::out::Out;
 use words::word_at;
 
@@ -38,29 +37,45 @@ fn end_call(
 }
 
 // A call whose result is returned, or a call and a `return;`, by whether the function returns something.
-fn tail_call(lines: &mut [u64], tokens: &mut [u64], text: &mut [u8], out: Out, src: &Source<'_>, i: u32, a: u64, item: u32, n: u32) -> Out
-    requires n_bound { item + n < 4294967296 }
+fn tail_call(
+    lines: &mut [u64],
+    tokens: &mut [u64],
+    text: &mut [u8],
+    out: Out,
+    src: &Source<'_>,
+    i: u32,
+    a: u64,
+    item: u32,
+    n: u32,
+) -> Out
+    requires { item + n < 4294967296 }
     ensures { (E : Edition) → text_of E ≡ src.now.t → seen_sheet (sheet_of lines.new tokens.new text.new result)
         ≡ seen_sheet (write_all (sheet_of lines.old tokens.old text.old out) (tail_of E src.now.f.now i a (uses_of E src.now.f.now item n))) }
 {
     let returns = word_at(src.f, 8) == 1;
-    let out = put_call(
-        tokens, text, out, src, a, item, n, returns,
-    );
+    let out = put_call(tokens, text, out, src, a, item, n, returns);
     let out = end_stmt(lines, out, src.f, i);
     end_call(lines, tokens, text, out, src.f, i, returns)
 }
 
 // To a, which is no block.
-pub fn leave(lines: &mut [u64], tokens: &mut [u64], text: &mut [u8], out: Out, src: &Source<'_>, i: u32, a: u64, item: u32, n: u32) -> Out
-    requires n_bound { item + n < 4294967296 }
+pub fn leave(
+    lines: &mut [u64],
+    tokens: &mut [u64],
+    text: &mut [u8],
+    out: Out,
+    src: &Source<'_>,
+    i: u32,
+    a: u64,
+    item: u32,
+    n: u32,
+) -> Out
+    requires { item + n < 4294967296 }
     ensures { (E : Edition) → text_of E ≡ src.now.t → seen_sheet (sheet_of lines.new tokens.new text.new result)
         ≡ seen_sheet (write_all (sheet_of lines.old tokens.old text.old out) (leave_of E src.now.f.now i a (uses_of E src.now.f.now item n))) }
 {
     if leaves_raw(src.f, src.t, a) {
         return name_line(lines, tokens, text, out, ADDRESS, src.f, src.t, i, a);
     }
-    tail_call(
-        lines, tokens, text, out, src, i, a, item, n,
-    )
+    tail_call(lines, tokens, text, out, src, i, a, item, n)
 }

@@ -8,7 +8,6 @@ ghost use Rattle.definition.specs.Read.{read};
 ghost use Rattle.definition.specs.Lower.{count_set};
 ghost use Rattle.ssa.specs.View.{view_destination};
 ghost use Rattle.room.specs.Room.{sheet_of, write_all, seen_sheet};
-ghost use Rattle.render.specs.Told.{Told};
 ghost use Rattle.lowering.specs.Lowered.{lowered, here_at};
 ghost use Rattle.conditions.specs.Pairs.{Set};
 ghost use Rattle.gotos.specs.Written.{uses_of};
@@ -21,9 +20,9 @@ use conditions::operands::Found;
 use gotos::jump::{computed, to_block};
 use gotos::tail::leave;
 use lowering::list::least_of;
-use places::Places;
 use records::contents::stmt_long;
 use records::owners::{is_dead, stmt_field};
+use render::source::Source;
 use room::out::Out;
 use ssa::block::block_at;
 use ssa::parts::Destination;
@@ -44,7 +43,18 @@ fn goal(f: &[u8], block: u32, i: u32) -> Destination
 }
 
 // To a: a block, or out of the function with n list items from `item` on as arguments.
-fn jump_to(lines: &mut [u64], tokens: &mut [u64], text: &mut [u8], out: Out, src: &Source<'_>, block: u32, i: u32, a: u64, item: u32, n: u32) -> Out
+fn jump_to(
+    lines: &mut [u64],
+    tokens: &mut [u64],
+    text: &mut [u8],
+    out: Out,
+    src: &Source<'_>,
+    block: u32,
+    i: u32,
+    a: u64,
+    item: u32,
+    n: u32,
+) -> Out
     requires block_bound { block < size src.now.f.now blocks }
     requires n_bound { item + n < 4294967296 }
     ensures { (E : Edition) → text_of E ≡ src.now.t → seen_sheet (sheet_of lines.new tokens.new text.new result)
@@ -53,32 +63,46 @@ fn jump_to(lines: &mut [u64], tokens: &mut [u64], text: &mut [u8], out: Out, src
     if is_block(src.f, a) {
         return to_block(lines, tokens, text, out, src.f, block, i, a);
     }
-    leave(
-        lines, tokens, text, out, src, i, a, item, n,
-    )
+    leave(lines, tokens, text, out, src, i, a, item, n)
 }
 
 // A branch without a condition; it is computed where it goes to no address.
-fn plain_branch(lines: &mut [u64], tokens: &mut [u64], text: &mut [u8], out: Out, src: &Source<'_>, block: u32, i: u32, item: u32, count: u32) -> Out
-    requires branch_at { BranchAt src.now.f.now block i item }
+fn plain_branch(
+    lines: &mut [u64],
+    tokens: &mut [u64],
+    text: &mut [u8],
+    out: Out,
+    src: &Source<'_>,
+    block: u32,
+    i: u32,
+    item: u32,
+    count: u32,
+) -> Out
+    requires { BranchAt src.now.f.now block i item }
     ensures { (E : Edition) → text_of E ≡ src.now.t → seen_sheet (sheet_of lines.new tokens.new text.new result)
         ≡ seen_sheet (write_all (sheet_of lines.old tokens.old text.old out) (plain_of E src.now.f.now block i item count)) }
 {
     let to = goal(src.f, block, i);
     if to.there {
         let n = least_of(count, stmt_field(src.f, i, 6));
-        return jump_to(
-            lines, tokens, text, out, src, block, i,
-            to.address, item, n,
-        );
+        return jump_to(lines, tokens, text, out, src, block, i, to.address, item, n);
     }
-    computed(
-        lines, tokens, text, out, src, i, item,
-    )
+    computed(lines, tokens, text, out, src, i, item)
 }
 
 // Of the statement i in a block, with `count` argument registers set; its uses are list items from `item` on, and `setter` set the block's flags.
-pub fn branch(lines: &mut [u64], tokens: &mut [u64], text: &mut [u8], out: Out, src: &Source<'_>, block: u32, i: u32, item: u32, count: u32, setter: Found) -> Out
+pub fn branch(
+    lines: &mut [u64],
+    tokens: &mut [u64],
+    text: &mut [u8],
+    out: Out,
+    src: &Source<'_>,
+    block: u32,
+    i: u32,
+    item: u32,
+    count: u32,
+    setter: Found,
+) -> Out
     requires branch_at { BranchAt src.now.f.now block i item }
     requires set { Set src.now.f.now src.now.t (first_stmt src.now.f.now block) (block_stmts src.now.f.now block) setter }
     ensures { (E : Edition) (pend : List Stmt) (set : List ℕ) → text_of E ≡ src.now.t → count ≡ count_set set (read E src.now.f.now).args
@@ -89,11 +113,7 @@ pub fn branch(lines: &mut [u64], tokens: &mut [u64], text: &mut [u8], out: Out, 
         return out;
     }
     if stmt_field(src.f, i, 0) == 1 {
-        return conditional(
-            lines, tokens, text, out, src, block, i, setter,
-        );
+        return conditional(lines, tokens, text, out, src, block, i, setter);
     }
-    plain_branch(
-        lines, tokens, text, out, src, block, i, item, count,
-    )
+    plain_branch(lines, tokens, text, out, src, block, i, item, count)
 }

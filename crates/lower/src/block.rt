@@ -18,8 +18,8 @@ use conditions::operands::{Found, operands};
 use defined::value::next_item;
 use gotos::closing::closing;
 use gotos::label::label;
-use places::Places;
 use records::owners::block_stmts;
+use render::source::Source;
 use room::out::Out;
 
 // What is written, and where the next statement and its list items begin.
@@ -31,7 +31,20 @@ pub struct Walk {
 }
 
 // The statements of a block that ends before `end` and whose flags `setter` set. No pushes wait at first, and no argument register is set.
-fn stmts(lines: &mut [u64], tokens: &mut [u64], text: &mut [u8], w: Walk, src: &Source<'_>, live: &[u32], phi: &[u32], roots: &[u32], marks: &[u32], block: u32, end: u32, setter: Found) -> Walk
+fn stmts(
+    lines: &mut [u64],
+    tokens: &mut [u64],
+    text: &mut [u8],
+    w: Walk,
+    src: &Source<'_>,
+    live: &[u32],
+    phi: &[u32],
+    roots: &[u32],
+    marks: &[u32],
+    block: u32,
+    end: u32,
+    setter: Found,
+) -> Walk
     requires known { Known src.now.f.now src.now.t src.now.places src.now.numbers.now src.now.offs.now src.now.placed.now src.now.names.now live.now phi.now roots.now marks.now }
     requires block_bound { (block < size src.now.f.now blocks) × (Stands src.now.f.now (first_stmt src.now.f.now block) w) × (end ≡ first_stmt src.now.f.now block + block_stmts src.now.f.now block) }
     requires set { Set src.now.f.now src.now.t (first_stmt src.now.f.now block) (block_stmts src.now.f.now block) setter }
@@ -46,8 +59,8 @@ fn stmts(lines: &mut [u64], tokens: &mut [u64], text: &mut [u8], w: Walk, src: &
     let mut i = w.stmt;
     while i < end {
         out = stmt(
-            lines, tokens, text, out, src, live, phi, roots,
-            marks, block, i, end, item, from, count, setter,
+            lines, tokens, text, out, src, live, phi, roots, marks, block, i, end, item, from,
+            count, setter,
         );
         item = next_item(src.f, i, item);
         from = from_behind(src.f, i, from);
@@ -61,7 +74,19 @@ fn stmts(lines: &mut [u64], tokens: &mut [u64], text: &mut [u8], w: Walk, src: &
     }
 }
 
-pub fn lower_block(lines: &mut [u64], tokens: &mut [u64], text: &mut [u8], w: Walk, src: &Source<'_>, live: &[u32], phi: &[u32], roots: &[u32], marks: &[u32], labels: &[u32], block: u32) -> Walk
+pub fn lower_block(
+    lines: &mut [u64],
+    tokens: &mut [u64],
+    text: &mut [u8],
+    w: Walk,
+    src: &Source<'_>,
+    live: &[u32],
+    phi: &[u32],
+    roots: &[u32],
+    marks: &[u32],
+    labels: &[u32],
+    block: u32,
+) -> Walk
     requires known { Known src.now.f.now src.now.t src.now.places src.now.numbers.now src.now.offs.now src.now.placed.now src.now.names.now live.now phi.now roots.now marks.now }
     requires labels { Labels src.now.f.now (length labels.now) labels.now }
     requires block_bound { (block < size src.now.f.now blocks) × (Stands src.now.f.now (first_stmt src.now.f.now block) w) }

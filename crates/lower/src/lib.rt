@@ -17,6 +17,7 @@ ghost use Rattle.lower.specs.Given.{Lowers};
 use crate::block::{Walk, lower_block};
 use places::places_of;
 use records::contents::{BLOCKS, size_of};
+use render::source::Source;
 use room::out::Out;
 
 // All blocks, from an empty sheet on.
@@ -42,6 +43,15 @@ pub fn lower(
         ≡ seen_sheet (write_all (sheet_of lines.old tokens.old text.old fresh) (lower_of (read E f.now) (offsets (read E f.now)))) }
 {
     let places = places_of(f);
+    let src = Source {
+        f,
+        t,
+        places,
+        numbers,
+        offs,
+        placed,
+        names,
+    };
     let n = size_of(f, BLOCKS);
     let out = Out::start();
     let mut w = Walk {
@@ -52,8 +62,7 @@ pub fn lower(
     let mut b = 0;
     while b < n {
         w = lower_block(
-            lines, tokens, text, w, f, t, places, numbers, offs, placed, names, live, phi, roots,
-            marks, labels, b,
+            lines, tokens, text, w, &src, live, phi, roots, marks, labels, b,
         );
         b += 1;
     }

@@ -14,16 +14,33 @@ ghost use Rattle.lower.specs.Given.{Known, StmtAt};
 use calling::call::call;
 use conditions::operands::Found;
 use jumps::branch::branch;
-use places::Places;
 use plain::assign::assign;
 use plain::other::other;
 use plain::returns::returns;
 use plain::store::store;
+use render::source::Source;
 use room::out::Out;
 use statements::statement::{Kind, stmt_at};
 
 // Statement i of a block, with `count` argument registers set; its list items begin at `item`, pushes wait from statement `from` on, `setter` set the block's flags.
-pub fn stmt(lines: &mut [u64], tokens: &mut [u64], text: &mut [u8], out: Out, src: &Source<'_>, live: &[u32], phi: &[u32], roots: &[u32], marks: &[u32], block: u32, i: u32, end: u32, item: u32, from: u32, count: u32, setter: Found) -> Out
+pub fn stmt(
+    lines: &mut [u64],
+    tokens: &mut [u64],
+    text: &mut [u8],
+    out: Out,
+    src: &Source<'_>,
+    live: &[u32],
+    phi: &[u32],
+    roots: &[u32],
+    marks: &[u32],
+    block: u32,
+    i: u32,
+    end: u32,
+    item: u32,
+    from: u32,
+    count: u32,
+    setter: Found,
+) -> Out
     requires known { Known src.now.f.now src.now.t src.now.places src.now.numbers.now src.now.offs.now src.now.placed.now src.now.names.now live.now phi.now roots.now marks.now }
     requires stmt_at { StmtAt src.now.f.now block i end item }
     requires set { Set src.now.f.now src.now.t (first_stmt src.now.f.now block) (block_stmts src.now.f.now block) setter }
@@ -34,40 +51,16 @@ pub fn stmt(lines: &mut [u64], tokens: &mut [u64], text: &mut [u8], out: Out, sr
     let s = stmt_at(src.f, i, item);
     let kind = s.kind;
     match kind {
-        Kind::Assign(_) => {
-            assign(
-                lines, tokens, text, out, src, roots, marks,
-                i, end,
-            )
-        }
-        Kind::Store(_) => {
-            store(
-                lines, tokens, text, out, src, i, end,
-            )
-        }
+        Kind::Assign(_) => { assign(lines, tokens, text, out, src, roots, marks, i, end) }
+        Kind::Store(_) => { store(lines, tokens, text, out, src, i, end) }
         Kind::Call(_) => {
             call(
-                lines, tokens, text, out, src, live, phi, i,
-                item, from, count,
+                lines, tokens, text, out, src, live, phi, i, item, from, count,
             )
         }
-        Kind::Branch(_) => {
-            branch(
-                lines, tokens, text, out, src, block, i,
-                item, count, setter,
-            )
-        }
+        Kind::Branch(_) => { branch(lines, tokens, text, out, src, block, i, item, count, setter) }
         Kind::Flags(_) => out,
-        Kind::Return(_) => {
-            returns(
-                lines, tokens, text, out, src, i, end,
-            )
-        }
-        Kind::Other(_) => {
-            other(
-                lines, tokens, text, out, src, live, phi, i,
-                end, item,
-            )
-        }
+        Kind::Return(_) => { returns(lines, tokens, text, out, src, i, end) }
+        Kind::Other(_) => { other(lines, tokens, text, out, src, live, phi, i, end, item) }
     }
 }

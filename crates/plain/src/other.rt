@@ -10,7 +10,6 @@ ghost use Rattle.definition.specs.Tokens.{textual};
 ghost use Rattle.definition.specs.Lower.{Here};
 ghost use Rattle.reads.specs.Counts.{LiveReads, PhiReads};
 ghost use Rattle.room.specs.Room.{room_of, sheet_of, emit_all, seen, seen_sheet, write_all};
-ghost use Rattle.render.specs.Told.{Told};
 ghost use Rattle.lowering.specs.Lowered.{lowered};
 ghost use Rattle.plain.specs.Asm.{asm_block, asm_call, asm_of, other_of};
 
@@ -20,10 +19,10 @@ use lowering::line::end_stmt;
 use meaning::meaning::bits_of;
 use pieces::from_file::put_part;
 use pieces::put::put;
-use places::Places;
 use records::contents::offset_of;
 use records::owners::{is_dead, stmt_field};
 use render::code::put_code;
+use render::source::Source;
 use room::out::Out;
 use ssa::parts::Text;
 
@@ -87,13 +86,31 @@ fn put_asm(tokens: &mut [u64], text: &mut [u8], out: Out, f: &[u8], t: u32, x: T
     }
 }
 
-fn put_other(tokens: &mut [u64], text: &mut [u8], out: Out, src: &Source<'_>, live: &[u32], phi: &[u32], i: u32, first: u32) -> Out
+fn put_other(
+    tokens: &mut [u64],
+    text: &mut [u8],
+    out: Out,
+    src: &Source<'_>,
+    live: &[u32],
+    phi: &[u32],
+    i: u32,
+    first: u32,
+) -> Out
     requires live_reads { (LiveReads src.now.f.now (length src.now.numbers.now) live.now) × (PhiReads src.now.f.now (length src.now.numbers.now) phi.now) }
     requires i_bound { (i < size src.now.f.now statements) × (first ≡ first_item src.now.f.now i) }
     ensures { (E : Edition) → text_of E ≡ src.now.t → seen (room_of tokens.new text.new result)
         ≡ seen (emit_all (room_of tokens.old text.old out) (other_of E src.now.f.now i)) }
 {
-    let s = sets_of(src.f, src.places, src.numbers, src.names, live, phi, i, first);
+    let s = sets_of(
+        src.f,
+        src.places,
+        src.numbers,
+        src.names,
+        live,
+        phi,
+        i,
+        first,
+    );
     let x = Text {
         start: stmt_field(src.f, i, 0),
         len: stmt_field(src.f, i, 1),
@@ -101,7 +118,18 @@ fn put_other(tokens: &mut [u64], text: &mut [u8], out: Out, src: &Source<'_>, li
     put_asm(tokens, text, out, src.f, src.t, x, s)
 }
 
-pub fn other(lines: &mut [u64], tokens: &mut [u64], text: &mut [u8], out: Out, src: &Source<'_>, live: &[u32], phi: &[u32], i: u32, end: u32, first: u32) -> Out
+pub fn other(
+    lines: &mut [u64],
+    tokens: &mut [u64],
+    text: &mut [u8],
+    out: Out,
+    src: &Source<'_>,
+    live: &[u32],
+    phi: &[u32],
+    i: u32,
+    end: u32,
+    first: u32,
+) -> Out
     requires i_value { stmt_kind src.now.f.now i ≡ k_other }
     requires i_lt_end { (i < end) × (end ≤ size src.now.f.now statements) }
     requires live_reads { (LiveReads src.now.f.now (length src.now.numbers.now) live.now) × (PhiReads src.now.f.now (length src.now.numbers.now) phi.now) }
@@ -113,8 +141,6 @@ pub fn other(lines: &mut [u64], tokens: &mut [u64], text: &mut [u8], out: Out, s
     if is_dead(src.f, i) {
         return out;
     }
-    let out = put_other(
-        tokens, text, out, src, live, phi, i, first,
-    );
+    let out = put_other(tokens, text, out, src, live, phi, i, first);
     end_stmt(lines, out, src.f, i)
 }

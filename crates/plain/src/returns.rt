@@ -7,7 +7,6 @@ ghost use Rattle.definition.specs.Owners.{stmt_kind};
 ghost use Rattle.definition.specs.Ssa.{Stmt};
 ghost use Rattle.definition.specs.Lower.{Here};
 ghost use Rattle.room.specs.Room.{room_of, sheet_of, emit_all, seen, seen_sheet, write_all};
-ghost use Rattle.render.specs.Told.{Told};
 ghost use Rattle.lowering.specs.Lowered.{lowered};
 ghost use Rattle.plain.specs.Pieces.{result_of, return_of};
 
@@ -15,8 +14,8 @@ use lowering::kinds::{KEYWORD, PUNCT, TEXT};
 use lowering::line::end_stmt;
 use lowering::list::put_expr;
 use pieces::put::put;
-use places::Places;
 use records::owners::{is_dead, stmt_field};
+use render::source::Source;
 use room::out::Out;
 use words::word_at;
 
@@ -33,9 +32,7 @@ fn put_result(tokens: &mut [u64], text: &mut [u8], out: Out, src: &Source<'_>, i
     }
     let n = stmt_field(src.f, i, 1);
     let out = put(tokens, text, out, TEXT, b" ");
-    put_expr(
-        tokens, text, out, src, n,
-    )
+    put_expr(tokens, text, out, src, n)
 }
 
 fn put_return(tokens: &mut [u64], text: &mut [u8], out: Out, src: &Source<'_>, i: u32) -> Out
@@ -43,13 +40,19 @@ fn put_return(tokens: &mut [u64], text: &mut [u8], out: Out, src: &Source<'_>, i
         ≡ seen (emit_all (room_of tokens.old text.old out) (return_of E src.now.f.now i)) }
 {
     let out = put(tokens, text, out, KEYWORD, b"return");
-    let out = put_result(
-        tokens, text, out, src, i,
-    );
+    let out = put_result(tokens, text, out, src, i);
     put(tokens, text, out, PUNCT, b";")
 }
 
-pub fn returns(lines: &mut [u64], tokens: &mut [u64], text: &mut [u8], out: Out, src: &Source<'_>, i: u32, end: u32) -> Out
+pub fn returns(
+    lines: &mut [u64],
+    tokens: &mut [u64],
+    text: &mut [u8],
+    out: Out,
+    src: &Source<'_>,
+    i: u32,
+    end: u32,
+) -> Out
     requires i_value { stmt_kind src.now.f.now i ≡ k_return }
     requires i_lt_end { (i < end) × (end ≤ size src.now.f.now statements) }
     ensures { (E : Edition) (H : Here) (pend : List Stmt) (set : List ℕ) → text_of E ≡ src.now.t
@@ -59,8 +62,6 @@ pub fn returns(lines: &mut [u64], tokens: &mut [u64], text: &mut [u8], out: Out,
     if is_dead(src.f, i) {
         return out;
     }
-    let out = put_return(
-        tokens, text, out, src, i,
-    );
+    let out = put_return(tokens, text, out, src, i);
     end_stmt(lines, out, src.f, i)
 }

@@ -18,10 +18,10 @@ next_item-item-requires c =
     (pre.known.told.ground.counts, in_block _ pre.known.told.ground.counts _ _ _ pre.block_bound.0 pre.block_bound.2 c.loop-i-test.true, c.loop-i.invariant.2)
 
 pub from_behind-from-requires : goal.from_behind-from-requires
-from_behind-from-requires c = index_small _ c.type_inv.f _ (in_block _ c.requires.known.told.ground.counts _ _ _ c.requires.block_bound.0 c.requires.block_bound.2 c.loop-i-test.true)
+from_behind-from-requires c = index_small _ c.args.src.now.bytes _ (in_block _ c.requires.known.told.ground.counts _ _ _ c.requires.block_bound.0 c.requires.block_bound.2 c.loop-i-test.true)
 
 pub overflow_add-i : goal.overflow_add-i
-overflow_add-i c = omega (arith, index_small c.args.f.now c.type_inv.f c.loop-i.i (in_block c.args.f.now c.requires.known.told.ground.counts c.args.block c.args.end c.loop-i.i c.requires.block_bound.0 c.requires.block_bound.2 c.loop-i-test.true))
+overflow_add-i c = omega (arith, index_small c.args.src.now.f.now c.args.src.now.bytes c.loop-i.i (in_block c.args.src.now.f.now c.requires.known.told.ground.counts c.args.block c.args.end c.loop-i.i c.requires.block_bound.0 c.requires.block_bound.2 c.loop-i-test.true))
 
 pub loop-i-smaller : goal.loop-i-smaller
 loop-i-smaller c = omega (arith, c.loop-i-test.true)
