@@ -4,12 +4,12 @@ ghost use Rattle.definition.specs.Edition.{Edition, blocks};
 ghost use Rattle.definition.specs.Contents.{size, text as text_of};
 ghost use Rattle.definition.specs.Owners.{block_stmts, first_stmt};
 ghost use Rattle.definition.specs.Blocks.{lower_stmts, lower_block};
-ghost use Rattle.labels.specs.Labels.{Labels};
 ghost use Rattle.room.specs.Room.{sheet_of, seen_sheet, write_all};
 ghost use Rattle.lowering.specs.Lowered.{lowering_of, here_at};
 ghost use Rattle.conditions.specs.Pairs.{Set};
-ghost use Rattle.lower.specs.Given.{Known, Stands};
+ghost use Rattle.lower.specs.Given.{Stands};
 
+use crate::given::Given;
 use crate::stmt::stmt;
 use calls::ends::last_leaves;
 use calls::pushes::from_behind;
@@ -19,7 +19,6 @@ use defined::value::next_item;
 use gotos::closing::closing;
 use gotos::label::label;
 use records::owners::block_stmts;
-use render::source::Source;
 use room::out::Out;
 
 // What is written, and where the next statement and its list items begin.
@@ -36,21 +35,16 @@ fn stmts(
     tokens: &mut [u64],
     text: &mut [u8],
     w: Walk,
-    src: &Source<'_>,
-    live: &[u32],
-    phi: &[u32],
-    roots: &[u32],
-    marks: &[u32],
+    given: &Given<'_>,
     block: u32,
     end: u32,
     setter: Found,
 ) -> Walk
-    requires known { Known src.now.f.now src.now.t src.now.places src.now.numbers.now src.now.offs.now src.now.placed.now src.now.names.now live.now phi.now roots.now marks.now }
-    requires block_bound { (block < size src.now.f.now blocks) × (Stands src.now.f.now (first_stmt src.now.f.now block) w) × (end ≡ first_stmt src.now.f.now block + block_stmts src.now.f.now block) }
-    requires set { Set src.now.f.now src.now.t (first_stmt src.now.f.now block) (block_stmts src.now.f.now block) setter }
-    ensures { (Stands src.now.f.now end result) × ((E : Edition) → text_of E ≡ src.now.t
+    requires block_bound { (block < size given.now.src.f.now blocks) × (Stands given.now.src.f.now (first_stmt given.now.src.f.now block) w) × (end ≡ first_stmt given.now.src.f.now block + block_stmts given.now.src.f.now block) }
+    requires set { Set given.now.src.f.now given.now.src.t (first_stmt given.now.src.f.now block) (block_stmts given.now.src.f.now block) setter }
+    ensures { (Stands given.now.src.f.now end result) × ((E : Edition) → text_of E ≡ given.now.src.t
         → seen_sheet (sheet_of lines.new tokens.new text.new result.out)
-        ≡ seen_sheet (write_all (sheet_of lines.old tokens.old text.old w.out) (lower_stmts (lowering_of E src.now.f.now) (here_at E src.now.f.now block) [] [] (here_at E src.now.f.now block).block.stmts))) }
+        ≡ seen_sheet (write_all (sheet_of lines.old tokens.old text.old w.out) (lower_stmts (lowering_of E given.now.src.f.now) (here_at E given.now.src.f.now block) [] [] (here_at E given.now.src.f.now block).block.stmts))) }
 {
     let mut out = w.out;
     let mut item = w.item;
@@ -59,12 +53,11 @@ fn stmts(
     let mut i = w.stmt;
     while i < end {
         out = stmt(
-            lines, tokens, text, out, src, live, phi, roots, marks, block, i, end, item, from,
-            count, setter,
+            lines, tokens, text, out, given, block, i, end, item, from, count, setter,
         );
-        item = next_item(src.f, i, item);
-        from = from_behind(src.f, i, from);
-        count = set_behind(src.f, i, count);
+        item = next_item(given.src.f, i, item);
+        from = from_behind(given.src.f, i, from);
+        count = set_behind(given.src.f, i, count);
         i += 1;
     }
     Walk {
@@ -79,46 +72,26 @@ pub fn lower_block(
     tokens: &mut [u64],
     text: &mut [u8],
     w: Walk,
-    src: &Source<'_>,
-    live: &[u32],
-    phi: &[u32],
-    roots: &[u32],
-    marks: &[u32],
-    labels: &[u32],
+    given: &Given<'_>,
     block: u32,
 ) -> Walk
-    requires known { Known src.now.f.now src.now.t src.now.places src.now.numbers.now src.now.offs.now src.now.placed.now src.now.names.now live.now phi.now roots.now marks.now }
-    requires labels { Labels src.now.f.now (length labels.now) labels.now }
-    requires block_bound { (block < size src.now.f.now blocks) × (Stands src.now.f.now (first_stmt src.now.f.now block) w) }
-    ensures { (Stands src.now.f.now (first_stmt src.now.f.now (block + 1)) result) × ((E : Edition) → text_of E ≡ src.now.t
+    requires block_bound { (block < size given.now.src.f.now blocks) × (Stands given.now.src.f.now (first_stmt given.now.src.f.now block) w) }
+    ensures { (Stands given.now.src.f.now (first_stmt given.now.src.f.now (block + 1)) result) × ((E : Edition) → text_of E ≡ given.now.src.t
         → seen_sheet (sheet_of lines.new tokens.new text.new result.out)
-        ≡ seen_sheet (write_all (sheet_of lines.old tokens.old text.old w.out) (lower_block (lowering_of E src.now.f.now) (here_at E src.now.f.now block)))) }
+        ≡ seen_sheet (write_all (sheet_of lines.old tokens.old text.old w.out) (lower_block (lowering_of E given.now.src.f.now) (here_at E given.now.src.f.now block)))) }
 {
     let first = w.stmt;
-    let n = block_stmts(src.f, block);
-    let leaves = last_leaves(src.f, first, n);
-    let setter = operands(src.f, src.t, first, n);
-    let out = label(lines, tokens, text, w.out, src.f, labels, block);
+    let n = block_stmts(given.src.f, block);
+    let leaves = last_leaves(given.src.f, first, n);
+    let setter = operands(given.src.f, given.src.t, first, n);
+    let out = label(lines, tokens, text, w.out, given.src.f, given.labels, block);
     let begun = Walk {
         out: out,
         stmt: first,
         item: w.item,
     };
-    let v = stmts(
-        lines,
-        tokens,
-        text,
-        begun,
-        src,
-        live,
-        phi,
-        roots,
-        marks,
-        block,
-        first + n,
-        setter,
-    );
-    let out = closing(lines, tokens, text, v.out, src.f, block, leaves);
+    let v = stmts(lines, tokens, text, begun, given, block, first + n, setter);
+    let out = closing(lines, tokens, text, v.out, given.src.f, block, leaves);
     Walk {
         out: out,
         stmt: v.stmt,

@@ -9,8 +9,9 @@ ghost use Rattle.calls.specs.Waiting.{pending};
 ghost use Rattle.room.specs.Room.{sheet_of, seen_sheet, write_all};
 ghost use Rattle.lowering.specs.Lowered.{lowered, here_at};
 ghost use Rattle.conditions.specs.Pairs.{Set};
-ghost use Rattle.lower.specs.Given.{Known, StmtAt};
+ghost use Rattle.lower.specs.Given.{StmtAt};
 
+use crate::given::Given;
 use calling::call::call;
 use conditions::operands::Found;
 use jumps::branch::branch;
@@ -18,7 +19,6 @@ use plain::assign::assign;
 use plain::other::other;
 use plain::returns::returns;
 use plain::store::store;
-use render::source::Source;
 use room::out::Out;
 use statements::statement::{Kind, stmt_at};
 
@@ -28,11 +28,7 @@ pub fn stmt(
     tokens: &mut [u64],
     text: &mut [u8],
     out: Out,
-    src: &Source<'_>,
-    live: &[u32],
-    phi: &[u32],
-    roots: &[u32],
-    marks: &[u32],
+    given: &Given<'_>,
     block: u32,
     i: u32,
     end: u32,
@@ -41,26 +37,45 @@ pub fn stmt(
     count: u32,
     setter: Found,
 ) -> Out
-    requires known { Known src.now.f.now src.now.t src.now.places src.now.numbers.now src.now.offs.now src.now.placed.now src.now.names.now live.now phi.now roots.now marks.now }
-    requires stmt_at { StmtAt src.now.f.now block i end item }
-    requires set { Set src.now.f.now src.now.t (first_stmt src.now.f.now block) (block_stmts src.now.f.now block) setter }
-    ensures { (E : Edition) (set : List ℕ) → text_of E ≡ src.now.t → count ≡ count_set set (read E src.now.f.now).args
+    requires stmt_at { StmtAt given.now.src.f.now block i end item }
+    requires set { Set given.now.src.f.now given.now.src.t (first_stmt given.now.src.f.now block) (block_stmts given.now.src.f.now block) setter }
+    ensures { (E : Edition) (set : List ℕ) → text_of E ≡ given.now.src.t → count ≡ count_set set (read E given.now.src.f.now).args
         → seen_sheet (sheet_of lines.new tokens.new text.new result)
-        ≡ seen_sheet (write_all (sheet_of lines.old tokens.old text.old out) (lowered E src.now.f.now (here_at E src.now.f.now block) (pending E src.now.f.now from i) set end i)) }
+        ≡ seen_sheet (write_all (sheet_of lines.old tokens.old text.old out) (lowered E given.now.src.f.now (here_at E given.now.src.f.now block) (pending E given.now.src.f.now from i) set end i)) }
 {
-    let s = stmt_at(src.f, i, item);
+    let s = stmt_at(given.src.f, i, item);
     let kind = s.kind;
     match kind {
-        Kind::Assign(_) => { assign(lines, tokens, text, out, src, roots, marks, i, end) }
-        Kind::Store(_) => { store(lines, tokens, text, out, src, i, end) }
-        Kind::Call(_) => {
-            call(
-                lines, tokens, text, out, src, live, phi, i, item, from, count,
+        Kind::Assign(_) => {
+            assign(
+                lines,
+                tokens,
+                text,
+                out,
+                &given.src,
+                given.roots,
+                given.marks,
+                i,
+                end,
             )
         }
-        Kind::Branch(_) => { branch(lines, tokens, text, out, src, block, i, item, count, setter) }
+        Kind::Store(_) => { store(lines, tokens, text, out, &given.src, i, end) }
+        Kind::Call(_) => {
+            call(
+                lines, tokens, text, out, &given.src, given.live, given.phi, i, item, from, count,
+            )
+        }
+        Kind::Branch(_) => {
+            branch(
+                lines, tokens, text, out, &given.src, block, i, item, count, setter,
+            )
+        }
         Kind::Flags(_) => out,
-        Kind::Return(_) => { returns(lines, tokens, text, out, src, i, end) }
-        Kind::Other(_) => { other(lines, tokens, text, out, src, live, phi, i, end, item) }
+        Kind::Return(_) => { returns(lines, tokens, text, out, &given.src, i, end) }
+        Kind::Other(_) => {
+            other(
+                lines, tokens, text, out, &given.src, given.live, given.phi, i, end, item,
+            )
+        }
     }
 }

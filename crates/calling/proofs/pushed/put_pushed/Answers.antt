@@ -1,5 +1,4 @@
 use Rattle.calling.proofs.Pushing.{pushed_turn, pushed_end}
-use mathlib.Core.Bool.{false}
 use mathlib.Core.Path.{refl, ◌∙◌}
 use Rattle.calling.proofs.pushed.put_pushed.Goals as goal
 

@@ -1,8 +1,6 @@
 use Rattle.conditions.proofs.Assigning.{alike, search_start, search_turn, search_end}
 use Rattle.records.proofs.Items.{size_small}
-use mathlib.Core.Bool.{true}
 use mathlib.Core.Path.{sym, ◌∙◌}
-use Prim.Native.Nat.{◌-◌}
 use native.Mathlib.Omega.{arith}
 use Rattle.conditions.proofs.assigned.assigning.Goals as goal
 

@@ -1,6 +1,4 @@
 use Rattle.lowering.proofs.Commas.{items_start, items_turn, items_end}
-use Prim.Native.Nat.{◌-◌}
-use mathlib.Core.Bool.{false}
 use mathlib.Core.Path.{refl, ◌∙◌}
 use native.Mathlib.Omega.{arith}
 use Rattle.lowering.proofs.list.put_items.Goals as goal

@@ -1,5 +1,4 @@
 use Rattle.plain.proofs.Searching.{sets_turn, sets_done}
-use Prim.Native.Nat.{◌-◌}
 use mathlib.Core.Path.{refl, ◌∙◌}
 use Rattle.plain.proofs.sets.sets_from.Goals as goal
 
