@@ -5,7 +5,6 @@ ghost use Rattle.definition.specs.Contents.{text as text_of};
 ghost use Rattle.definition.specs.Owners.{stmt_field};
 ghost use Rattle.definition.specs.Lower.{comma_list, is_indirect};
 ghost use Rattle.room.specs.Room.{room_of, emit_all, seen};
-ghost use Rattle.render.specs.Told.{Told};
 ghost use Rattle.lowering.specs.Lowered.{lowering_of};
 ghost use Rattle.calling.specs.Given.{CallAt};
 ghost use Rattle.lowering.specs.Commas.{trees_of};
@@ -15,8 +14,8 @@ use crate::pushed::put_pushed;
 use calls::direct::is_indirect;
 use lowering::list::put_items;
 use meaning::meaning::bits_of;
-use places::Places;
 use records::owners::{is_pushed, stmt_field};
+use render::source::Source;
 use room::out::Out;
 
 // How many of n list items stand before the arguments: the address of a computed call.
@@ -28,103 +27,52 @@ fn skipped(computed: bool, n: u32) -> u32
 }
 
 // Of 64 bits: the first `count`.
-fn put_counted(
-    tokens: &mut [u64],
-    text: &mut [u8],
-    out: Out,
-    f: &[u8],
-    t: u32,
-    places: Places,
-    numbers: &[u32],
-    offs: &[u64],
-    placed: &[u32],
-    names: &[u32],
-    i: u32,
-    item: u32,
-    count: u32,
-) -> Out
-    requires told { Told f.now t places numbers.now offs.now placed.now names.now }
-    requires call_at { CallAt f.now i item }
-    ensures { (E : Edition) → text_of E ≡ t → seen (room_of tokens.new text.new result)
-        ≡ seen (emit_all (room_of tokens.old text.old out) (comma_list (lowering_of E f.now)
-        (trees_of E f.now (counted f.now (is_indirect (target_text E f.now i)) item (stmt_field f.now i 2) count)))) }
+fn put_counted(tokens: &mut [u64], text: &mut [u8], out: Out, src: &Source<'_>, i: u32, item: u32, count: u32) -> Out
+    requires { CallAt src.now.f.now i item }
+    ensures { (E : Edition) → text_of E ≡ src.now.t → seen (room_of tokens.new text.new result)
+        ≡ seen (emit_all (room_of tokens.old text.old out) (comma_list (lowering_of E src.now.f.now)
+        (trees_of E src.now.f.now (counted src.now.f.now (is_indirect (target_text E src.now.f.now i)) item (stmt_field src.now.f.now i 2) count)))) }
 {
-    let start = stmt_field(f, i, 0);
-    let len = stmt_field(f, i, 1);
-    let n = stmt_field(f, i, 2);
-    let s = skipped(is_indirect(f, t, start, len), n);
+    let start = stmt_field(src.f, i, 0);
+    let len = stmt_field(src.f, i, 1);
+    let n = stmt_field(src.f, i, 2);
+    let s = skipped(is_indirect(src.f, src.t, start, len), n);
     let m = count.min(n - s);
     put_items(
         tokens,
         text,
         out,
-        f,
-        t,
-        places,
-        numbers,
-        offs,
-        placed,
-        names,
+        src,
         item + s,
         m,
     )
 }
 
 // Of 32 bits: none where the call is itself marked as a push, they go to the next one.
-fn put_waiting(
-    tokens: &mut [u64],
-    text: &mut [u8],
-    out: Out,
-    f: &[u8],
-    t: u32,
-    places: Places,
-    numbers: &[u32],
-    offs: &[u64],
-    placed: &[u32],
-    names: &[u32],
-    from: u32,
-    i: u32,
-) -> Out
-    requires { Told f.now t places numbers.now offs.now placed.now names.now }
-    ensures { (E : Edition) → text_of E ≡ t → seen (room_of tokens.new text.new result)
-        ≡ seen (emit_all (room_of tokens.old text.old out) (comma_list (lowering_of E f.now) (trees_of E f.now (waiting_nodes f.now from i)))) }
+fn put_waiting(tokens: &mut [u64], text: &mut [u8], out: Out, src: &Source<'_>, from: u32, i: u32) -> Out
+    ensures { (E : Edition) → text_of E ≡ src.now.t → seen (room_of tokens.new text.new result)
+        ≡ seen (emit_all (room_of tokens.old text.old out) (comma_list (lowering_of E src.now.f.now) (trees_of E src.now.f.now (waiting_nodes src.now.f.now from i)))) }
 {
-    if is_pushed(f, i) {
+    if is_pushed(src.f, i) {
         return out;
     }
     put_pushed(
-        tokens, text, out, f, t, places, numbers, offs, placed, names, from, i,
+        tokens, text, out, src, from, i,
     )
 }
 
 // The arguments of call i, whose list items begin at `item`, with the pushes from statement `from` on and `count` argument registers set.
-pub fn put_args(
-    tokens: &mut [u64],
-    text: &mut [u8],
-    out: Out,
-    f: &[u8],
-    t: u32,
-    places: Places,
-    numbers: &[u32],
-    offs: &[u64],
-    placed: &[u32],
-    names: &[u32],
-    i: u32,
-    item: u32,
-    from: u32,
-    count: u32,
-) -> Out
-    requires told { Told f.now t places numbers.now offs.now placed.now names.now }
-    requires call_at { CallAt f.now i item }
-    ensures { (E : Edition) → text_of E ≡ t → seen (room_of tokens.new text.new result)
-        ≡ seen (emit_all (room_of tokens.old text.old out) (comma_list (lowering_of E f.now) (trees_of E f.now (arg_nodes E f.now i item from count)))) }
+pub fn put_args(tokens: &mut [u64], text: &mut [u8], out: Out, src: &Source<'_>, i: u32, item: u32, from: u32, count: u32) -> Out
+    requires { CallAt src.now.f.now i item }
+    ensures { (E : Edition) → text_of E ≡ src.now.t → seen (room_of tokens.new text.new result)
+        ≡ seen (emit_all (room_of tokens.old text.old out) (comma_list (lowering_of E src.now.f.now) (trees_of E src.now.f.now (arg_nodes E src.now.f.now i item from count)))) }
 {
-    if bits_of(f) == 32 {
+    if bits_of(src.f) == 32 {
         return put_waiting(
-            tokens, text, out, f, t, places, numbers, offs, placed, names, from, i,
+            tokens, text, out, src, from, i,
         );
     }
     put_counted(
-        tokens, text, out, f, t, places, numbers, offs, placed, names, i, item, count,
+        tokens, text, out, src, i, item, count,
     )
 }

@@ -6,7 +6,6 @@ ghost use Rattle.definition.specs.Read.{read};
 ghost use Rattle.definition.specs.Lower.{Here, count_set};
 ghost use Rattle.room.specs.Room.{room_of, emit_all, seen, sheet_of, write_all, seen_sheet};
 ghost use Rattle.reads.specs.Counts.{LiveReads, PhiReads};
-ghost use Rattle.render.specs.Told.{Told};
 ghost use Rattle.lowering.specs.Lowered.{lowered};
 ghost use Rattle.calls.specs.Waiting.{pending};
 ghost use Rattle.calling.specs.Given.{CallAt};
@@ -17,82 +16,45 @@ use crate::callee::put_target;
 use crate::result::put_result;
 use lowering::line::end_stmt;
 use pieces::put::put;
-use places::Places;
 use records::owners::is_dead;
 use render::kinds::PUNCT;
+use render::source::Source;
 use room::out::Out;
 
 // Its tokens.
-fn put_call(
-    tokens: &mut [u64],
-    text: &mut [u8],
-    out: Out,
-    f: &[u8],
-    t: u32,
-    places: Places,
-    numbers: &[u32],
-    offs: &[u64],
-    placed: &[u32],
-    names: &[u32],
-    live: &[u32],
-    phi: &[u32],
-    i: u32,
-    item: u32,
-    from: u32,
-    count: u32,
-) -> Out
-    requires told { Told f.now t places numbers.now offs.now placed.now names.now }
-    requires live_reads { LiveReads f.now (length numbers.now) live.now }
-    requires phi_reads { PhiReads f.now (length numbers.now) phi.now }
-    requires call_at { CallAt f.now i item }
-    ensures { (E : Edition) → text_of E ≡ t → seen (room_of tokens.new text.new result)
-        ≡ seen (emit_all (room_of tokens.old text.old out) (call_of E f.now i item from count)) }
+fn put_call(tokens: &mut [u64], text: &mut [u8], out: Out, src: &Source<'_>, live: &[u32], phi: &[u32], i: u32, item: u32, from: u32, count: u32) -> Out
+    requires live_reads { LiveReads src.now.f.now (length src.now.numbers.now) live.now }
+    requires phi_reads { PhiReads src.now.f.now (length src.now.numbers.now) phi.now }
+    requires call_at { CallAt src.now.f.now i item }
+    ensures { (E : Edition) → text_of E ≡ src.now.t → seen (room_of tokens.new text.new result)
+        ≡ seen (emit_all (room_of tokens.old text.old out) (call_of E src.now.f.now i item from count)) }
 {
-    let out = put_result(tokens, text, out, f, places, numbers, names, live, phi, i);
+    let out = put_result(tokens, text, out, src.f, src.places, src.numbers, src.names, live, phi, i);
     let out = put_target(
-        tokens, text, out, f, t, places, numbers, offs, placed, names, i, item,
+        tokens, text, out, src, i, item,
     );
     let out = put(tokens, text, out, PUNCT, b"(");
     let out = put_args(
-        tokens, text, out, f, t, places, numbers, offs, placed, names, i, item, from, count,
+        tokens, text, out, src, i, item, from, count,
     );
     put(tokens, text, out, PUNCT, b");")
 }
 
 // Statement i, a call whose list items begin at `item`, with the pushes from statement `from` on and `count` argument registers set.
-pub fn call(
-    lines: &mut [u64],
-    tokens: &mut [u64],
-    text: &mut [u8],
-    out: Out,
-    f: &[u8],
-    t: u32,
-    places: Places,
-    numbers: &[u32],
-    offs: &[u64],
-    placed: &[u32],
-    names: &[u32],
-    live: &[u32],
-    phi: &[u32],
-    i: u32,
-    item: u32,
-    from: u32,
-    count: u32,
-) -> Out
-    requires told { Told f.now t places numbers.now offs.now placed.now names.now }
-    requires live_reads { LiveReads f.now (length numbers.now) live.now }
-    requires phi_reads { PhiReads f.now (length numbers.now) phi.now }
-    requires call_at { CallAt f.now i item }
-    ensures { (E : Edition) (H : Here) (set : List ℕ) (end : ℕ) → text_of E ≡ t → count ≡ count_set set (read E f.now).args
+pub fn call(lines: &mut [u64], tokens: &mut [u64], text: &mut [u8], out: Out, src: &Source<'_>, live: &[u32], phi: &[u32], i: u32, item: u32, from: u32, count: u32) -> Out
+    requires live_reads { LiveReads src.now.f.now (length src.now.numbers.now) live.now }
+    requires phi_reads { PhiReads src.now.f.now (length src.now.numbers.now) phi.now }
+    requires call_at { CallAt src.now.f.now i item }
+    ensures { (E : Edition) (H : Here) (set : List ℕ) (end : ℕ) → text_of E ≡ src.now.t → count ≡ count_set set (read E src.now.f.now).args
         → seen_sheet (sheet_of lines.new tokens.new text.new result)
-        ≡ seen_sheet (write_all (sheet_of lines.old tokens.old text.old out) (lowered E f.now H (pending E f.now from i) set end i)) }
+        ≡ seen_sheet (write_all (sheet_of lines.old tokens.old text.old out) (lowered E src.now.f.now H (pending E src.now.f.now from i) set end i)) }
 {
-    if is_dead(f, i) {
+    if is_dead(src.f, i) {
         return out;
     }
     let out = put_call(
-        tokens, text, out, f, t, places, numbers, offs, placed, names, live, phi, i, item, from,
+        tokens, text, out, src, live, phi, i, item, from,
         count,
     );
-    end_stmt(lines, out, f, i)
+    end_stmt(lines, out, src.f, i)
 }

@@ -5,7 +5,6 @@ ghost use Rattle.definition.specs.Contents.{text as text_of};
 ghost use Rattle.definition.specs.Tokens.{tok};
 ghost use Rattle.definition.specs.Lower.{indirect};
 ghost use Rattle.room.specs.Room.{room_of, emit, emit_all, seen};
-ghost use Rattle.render.specs.Told.{Told};
 ghost use Rattle.lowering.specs.Lowered.{lowering_of};
 ghost use Rattle.lowering.specs.Commas.{listed, trees_of};
 ghost use Rattle.calling.specs.Written.{is_slot, slot_text, target_of};
@@ -13,9 +12,9 @@ ghost use Rattle.calling.specs.Written.{is_slot, slot_text, target_of};
 use calls::direct::{is_indirect, put_direct};
 use lowering::list::put_within;
 use pieces::from_file::put_global;
-use places::Places;
 use records::contents::{EXPRESSIONS, expr_long, expr_word, item_word, size_of};
 use records::owners::{CONST, LOAD, stmt_field};
+use render::source::Source;
 use room::out::Out;
 use text::names::is_global;
 
@@ -47,30 +46,21 @@ fn put_indirect(
     tokens: &mut [u64],
     text: &mut [u8],
     out: Out,
-    f: &[u8],
-    t: u32,
-    places: Places,
-    numbers: &[u32],
-    offs: &[u64],
-    placed: &[u32],
-    names: &[u32],
+    src: &Source<'_>,
     item: u32,
     n: u32,
 ) -> Out
-    requires { Told f.now t places numbers.now offs.now placed.now names.now }
-    ensures { (E : Edition) → text_of E ≡ t → seen (room_of tokens.new text.new result)
-        ≡ seen (emit_all (room_of tokens.old text.old out) (indirect (lowering_of E f.now) (trees_of E f.now (listed f.now item n)))) }
+    ensures { (E : Edition) → text_of E ≡ src.now.t → seen (room_of tokens.new text.new result)
+        ≡ seen (emit_all (room_of tokens.old text.old out) (indirect (lowering_of E src.now.f.now) (trees_of E src.now.f.now (listed src.now.f.now item n)))) }
 {
     if n == 0 {
         return out;
     }
-    let x = item_word(f, item, 0);
-    if is_slot(f, x) {
-        return put_slot(tokens, text, out, f, t, x);
+    let x = item_word(src.f, item, 0);
+    if is_slot(src.f, x) {
+        return put_slot(tokens, text, out, src.f, src.t, x);
     }
-    put_within(
-        tokens, text, out, f, t, places, numbers, offs, placed, names, b"(*", x, b")",
-    )
+    put_within(tokens, text, out, src, b"(*", x, b")")
 }
 
 // The target of call i, whose list items begin at `item`.
@@ -78,27 +68,18 @@ pub fn put_target(
     tokens: &mut [u64],
     text: &mut [u8],
     out: Out,
-    f: &[u8],
-    t: u32,
-    places: Places,
-    numbers: &[u32],
-    offs: &[u64],
-    placed: &[u32],
-    names: &[u32],
+    src: &Source<'_>,
     i: u32,
     item: u32,
 ) -> Out
-    requires { Told f.now t places numbers.now offs.now placed.now names.now }
-    ensures { (E : Edition) → text_of E ≡ t → seen (room_of tokens.new text.new result)
-        ≡ seen (emit_all (room_of tokens.old text.old out) (target_of E f.now i item)) }
+    ensures { (E : Edition) → text_of E ≡ src.now.t → seen (room_of tokens.new text.new result)
+        ≡ seen (emit_all (room_of tokens.old text.old out) (target_of E src.now.f.now i item)) }
 {
-    let start = stmt_field(f, i, 0);
-    let len = stmt_field(f, i, 1);
-    if is_indirect(f, t, start, len) {
-        let n = stmt_field(f, i, 2);
-        return put_indirect(
-            tokens, text, out, f, t, places, numbers, offs, placed, names, item, n,
-        );
+    let start = stmt_field(src.f, i, 0);
+    let len = stmt_field(src.f, i, 1);
+    if is_indirect(src.f, src.t, start, len) {
+        let n = stmt_field(src.f, i, 2);
+        return put_indirect(tokens, text, out, src, item, n);
     }
-    put_direct(tokens, text, out, f, t, start, len)
+    put_direct(tokens, text, out, src.f, src.t, start, len)
 }

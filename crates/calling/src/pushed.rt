@@ -4,15 +4,14 @@ ghost use Rattle.definition.specs.Edition.{Edition};
 ghost use Rattle.definition.specs.Contents.{text as text_of};
 ghost use Rattle.definition.specs.Lower.{comma_list};
 ghost use Rattle.room.specs.Room.{room_of, emit_all, seen};
-ghost use Rattle.render.specs.Told.{Told};
 ghost use Rattle.lowering.specs.Lowered.{lowering_of};
 ghost use Rattle.lowering.specs.Commas.{trees_of};
 ghost use Rattle.calls.specs.Waiting.{pushed_nodes};
 ghost use Rattle.calling.specs.Written.{is_push, push_of};
 
 use lowering::list::put_arg;
-use places::Places;
 use records::owners::{STORE, is_pushed, stmt_field, stmt_kind};
+use render::source::Source;
 use room::out::Out;
 
 // Whether statement i pushes a value: only a Store does.
@@ -24,59 +23,31 @@ fn is_push(f: &[u8], i: u32) -> bool
 }
 
 // The value that statement i pushes, if it does.
-fn put_push(
-    tokens: &mut [u64],
-    text: &mut [u8],
-    out: Out,
-    f: &[u8],
-    t: u32,
-    places: Places,
-    numbers: &[u32],
-    offs: &[u64],
-    placed: &[u32],
-    names: &[u32],
-    i: u32,
-    more: bool,
-) -> Out
-    requires { Told f.now t places numbers.now offs.now placed.now names.now }
-    ensures { (E : Edition) → text_of E ≡ t → seen (room_of tokens.new text.new result)
-        ≡ seen (emit_all (room_of tokens.old text.old out) (push_of E f.now more i)) }
+fn put_push(tokens: &mut [u64], text: &mut [u8], out: Out, src: &Source<'_>, i: u32, more: bool) -> Out
+    ensures { (E : Edition) → text_of E ≡ src.now.t → seen (room_of tokens.new text.new result)
+        ≡ seen (emit_all (room_of tokens.old text.old out) (push_of E src.now.f.now more i)) }
 {
-    if is_push(f, i) {
-        let x = stmt_field(f, i, 2);
+    if is_push(src.f, i) {
+        let x = stmt_field(src.f, i, 2);
         return put_arg(
-            tokens, text, out, f, t, places, numbers, offs, placed, names, x, more,
+            tokens, text, out, src, x, more,
         );
     }
     out
 }
 
 // The values pushed from statement `from` on and before statement i, the last first.
-pub fn put_pushed(
-    tokens: &mut [u64],
-    text: &mut [u8],
-    out: Out,
-    f: &[u8],
-    t: u32,
-    places: Places,
-    numbers: &[u32],
-    offs: &[u64],
-    placed: &[u32],
-    names: &[u32],
-    from: u32,
-    i: u32,
-) -> Out
-    requires { Told f.now t places numbers.now offs.now placed.now names.now }
-    ensures { (E : Edition) → text_of E ≡ t → seen (room_of tokens.new text.new result)
-        ≡ seen (emit_all (room_of tokens.old text.old out) (comma_list (lowering_of E f.now) (trees_of E f.now (pushed_nodes f.now from i)))) }
+pub fn put_pushed(tokens: &mut [u64], text: &mut [u8], out: Out, src: &Source<'_>, from: u32, i: u32) -> Out
+    ensures { (E : Edition) → text_of E ≡ src.now.t → seen (room_of tokens.new text.new result)
+        ≡ seen (emit_all (room_of tokens.old text.old out) (comma_list (lowering_of E src.now.f.now) (trees_of E src.now.f.now (pushed_nodes src.now.f.now from i)))) }
 {
     let mut out = out;
     let mut more = false;
     for j in (from..i).rev() {
         out = put_push(
-            tokens, text, out, f, t, places, numbers, offs, placed, names, j, more,
+            tokens, text, out, src, j, more,
         );
-        more |= is_push(f, j);
+        more |= is_push(src.f, j);
     }
     out
 }

@@ -3,17 +3,16 @@ ghost use Rattle.std.specs.Prelude.{◌≡◌, ◌+◌, ◌≤◌};
 ghost use Rattle.definition.specs.Edition.{Edition, statements};
 ghost use Rattle.definition.specs.Contents.{size, text as text_of};
 ghost use Rattle.room.specs.Room.{room_of, emit_all, seen};
-ghost use Rattle.render.specs.Told.{Told};
 ghost use Rattle.conditions.specs.Assigns.{Assigns};
 ghost use Rattle.conditions.specs.Pairs.{assigned_tokens, operand_tokens, Fit, Set};
 
 use crate::assigned::assigning;
 use flags::comparison::{Setter, Setting};
 use flags::setter::setter;
-use places::Places;
 use records::contents::{STATEMENTS, size_of};
 use records::owners::stmt_field;
 use render::expr::{expr, value};
+use render::source::Source;
 use room::out::Out;
 
 #[derive(Clone, Copy)]
@@ -53,30 +52,15 @@ pub fn operands(f: &[u8], t: u32, first: u32, count: u32) -> Option<Pair>
 }
 
 // The value that statement i assigns.
-fn put_assigned(
-    tokens: &mut [u64],
-    text: &mut [u8],
-    out: Out,
-    f: &[u8],
-    t: u32,
-    places: Places,
-    numbers: &[u32],
-    offs: &[u64],
-    placed: &[u32],
-    names: &[u32],
-    i: u32,
-) -> Out
-    requires told { Told f.now t places numbers.now offs.now placed.now names.now }
-    requires assigns { Assigns f.now i }
-    ensures { (E : Edition) → text_of E ≡ t → seen (room_of tokens.new text.new result)
-        ≡ seen (emit_all (room_of tokens.old text.old out) (assigned_tokens E f.now i)) }
+fn put_assigned(tokens: &mut [u64], text: &mut [u8], out: Out, src: &Source<'_>, i: u32) -> Out
+    requires { Assigns src.now.f.now i }
+    ensures { (E : Edition) → text_of E ≡ src.now.t → seen (room_of tokens.new text.new result)
+        ≡ seen (emit_all (room_of tokens.old text.old out) (assigned_tokens E src.now.f.now i)) }
 {
-    let pos = size_of(f, STATEMENTS);
-    let place = places.stmts + i as usize;
-    let reg = stmt_field(f, i, 0);
-    value(
-        tokens, text, out, f, t, places, numbers, offs, placed, names, pos, place, reg, false,
-    )
+    let pos = size_of(src.f, STATEMENTS);
+    let place = src.places.stmts + i as usize;
+    let reg = stmt_field(src.f, i, 0);
+    value(tokens, text, out, src, pos, place, reg, false)
 }
 
 // An operand, behind all statements.
@@ -84,31 +68,16 @@ pub fn put_operand(
     tokens: &mut [u64],
     text: &mut [u8],
     out: Out,
-    f: &[u8],
-    t: u32,
-    places: Places,
-    numbers: &[u32],
-    offs: &[u64],
-    placed: &[u32],
-    names: &[u32],
+    src: &Source<'_>,
     x: Operand,
 ) -> Out
-    requires told { Told f.now t places numbers.now offs.now placed.now names.now }
-    requires fit { Fit f.now x }
-    ensures { (E : Edition) → text_of E ≡ t → seen (room_of tokens.new text.new result)
-        ≡ seen (emit_all (room_of tokens.old text.old out) (operand_tokens E f.now x)) }
+    requires { Fit src.now.f.now x }
+    ensures { (E : Edition) → text_of E ≡ src.now.t → seen (room_of tokens.new text.new result)
+        ≡ seen (emit_all (room_of tokens.old text.old out) (operand_tokens E src.now.f.now x)) }
 {
-    let pos = size_of(f, STATEMENTS);
+    let pos = size_of(src.f, STATEMENTS);
     match x {
-        Operand::Node(n) => {
-            expr(
-                tokens, text, out, f, t, places, numbers, offs, placed, names, pos, n, false,
-            )
-        }
-        Operand::Assigned(i) => {
-            put_assigned(
-                tokens, text, out, f, t, places, numbers, offs, placed, names, i,
-            )
-        }
+        Operand::Node(n) => { expr(tokens, text, out, src, pos, n, false) }
+        Operand::Assigned(i) => { put_assigned(tokens, text, out, src, i) }
     }
 }

@@ -3,7 +3,6 @@ ghost use Rattle.std.specs.Prelude.{◌≡◌, ◌+◌, ◌<◌};
 ghost use Rattle.definition.specs.Edition.{Edition};
 ghost use Rattle.definition.specs.Contents.{text as text_of};
 ghost use Rattle.room.specs.Room.{sheet_of, write_all, seen_sheet};
-ghost use Rattle.render.specs.Told.{Told};
 ghost use Rattle.gotos.specs.Written.{uses_of, return_line, tail_of, leave_of};
 
 use crate::goto::name_line;
@@ -12,7 +11,7 @@ use calls::targets::leaves_raw;
 use render::kinds::{ADDRESS, KEYWORD, PUNCT};
 use lowering::line::end_stmt;
 use pieces::put::put;
-use places::Places;
+use render::source::Source;
 use room::out::Out;
 use words::word_at;
 
@@ -43,29 +42,20 @@ fn tail_call(
     tokens: &mut [u64],
     text: &mut [u8],
     out: Out,
-    f: &[u8],
-    t: u32,
-    places: Places,
-    numbers: &[u32],
-    offs: &[u64],
-    placed: &[u32],
-    names: &[u32],
+    src: &Source<'_>,
     i: u32,
     a: u64,
     item: u32,
     n: u32,
 ) -> Out
-    requires told { Told f.now t places numbers.now offs.now placed.now names.now }
-    requires n_bound { item + n < 4294967296 }
-    ensures { (E : Edition) → text_of E ≡ t → seen_sheet (sheet_of lines.new tokens.new text.new result)
-        ≡ seen_sheet (write_all (sheet_of lines.old tokens.old text.old out) (tail_of E f.now i a (uses_of E f.now item n))) }
+    requires { item + n < 4294967296 }
+    ensures { (E : Edition) → text_of E ≡ src.now.t → seen_sheet (sheet_of lines.new tokens.new text.new result)
+        ≡ seen_sheet (write_all (sheet_of lines.old tokens.old text.old out) (tail_of E src.now.f.now i a (uses_of E src.now.f.now item n))) }
 {
-    let returns = word_at(f, 8) == 1;
-    let out = put_call(
-        tokens, text, out, f, t, places, numbers, offs, placed, names, a, item, n, returns,
-    );
-    let out = end_stmt(lines, out, f, i);
-    end_call(lines, tokens, text, out, f, i, returns)
+    let returns = word_at(src.f, 8) == 1;
+    let out = put_call(tokens, text, out, src, a, item, n, returns);
+    let out = end_stmt(lines, out, src.f, i);
+    end_call(lines, tokens, text, out, src.f, i, returns)
 }
 
 // To a, which is no block.
@@ -74,27 +64,18 @@ pub fn leave(
     tokens: &mut [u64],
     text: &mut [u8],
     out: Out,
-    f: &[u8],
-    t: u32,
-    places: Places,
-    numbers: &[u32],
-    offs: &[u64],
-    placed: &[u32],
-    names: &[u32],
+    src: &Source<'_>,
     i: u32,
     a: u64,
     item: u32,
     n: u32,
 ) -> Out
-    requires told { Told f.now t places numbers.now offs.now placed.now names.now }
-    requires n_bound { item + n < 4294967296 }
-    ensures { (E : Edition) → text_of E ≡ t → seen_sheet (sheet_of lines.new tokens.new text.new result)
-        ≡ seen_sheet (write_all (sheet_of lines.old tokens.old text.old out) (leave_of E f.now i a (uses_of E f.now item n))) }
+    requires { item + n < 4294967296 }
+    ensures { (E : Edition) → text_of E ≡ src.now.t → seen_sheet (sheet_of lines.new tokens.new text.new result)
+        ≡ seen_sheet (write_all (sheet_of lines.old tokens.old text.old out) (leave_of E src.now.f.now i a (uses_of E src.now.f.now item n))) }
 {
-    if leaves_raw(f, t, a) {
-        return name_line(lines, tokens, text, out, ADDRESS, f, t, i, a);
+    if leaves_raw(src.f, src.t, a) {
+        return name_line(lines, tokens, text, out, ADDRESS, src.f, src.t, i, a);
     }
-    tail_call(
-        lines, tokens, text, out, f, t, places, numbers, offs, placed, names, i, a, item, n,
-    )
+    tail_call(lines, tokens, text, out, src, i, a, item, n)
 }

@@ -8,7 +8,6 @@ ghost use Rattle.definition.specs.Read.{read};
 ghost use Rattle.definition.specs.Lower.{count_set};
 ghost use Rattle.ssa.specs.View.{view_destination};
 ghost use Rattle.room.specs.Room.{sheet_of, write_all, seen_sheet};
-ghost use Rattle.render.specs.Told.{Told};
 ghost use Rattle.lowering.specs.Lowered.{lowered, here_at};
 ghost use Rattle.conditions.specs.Pairs.{Set};
 ghost use Rattle.gotos.specs.Written.{uses_of};
@@ -21,9 +20,9 @@ use conditions::operands::Found;
 use gotos::jump::{computed, to_block};
 use gotos::tail::leave;
 use lowering::list::least_of;
-use places::Places;
 use records::contents::stmt_long;
 use records::owners::{is_dead, stmt_field};
+use render::source::Source;
 use room::out::Out;
 use ssa::block::block_at;
 use ssa::parts::Destination;
@@ -49,31 +48,22 @@ fn jump_to(
     tokens: &mut [u64],
     text: &mut [u8],
     out: Out,
-    f: &[u8],
-    t: u32,
-    places: Places,
-    numbers: &[u32],
-    offs: &[u64],
-    placed: &[u32],
-    names: &[u32],
+    src: &Source<'_>,
     block: u32,
     i: u32,
     a: u64,
     item: u32,
     n: u32,
 ) -> Out
-    requires told { Told f.now t places numbers.now offs.now placed.now names.now }
-    requires block_bound { block < size f.now blocks }
+    requires block_bound { block < size src.now.f.now blocks }
     requires n_bound { item + n < 4294967296 }
-    ensures { (E : Edition) → text_of E ≡ t → seen_sheet (sheet_of lines.new tokens.new text.new result)
-        ≡ seen_sheet (write_all (sheet_of lines.old tokens.old text.old out) (jump_of E f.now block i a (uses_of E f.now item n))) }
+    ensures { (E : Edition) → text_of E ≡ src.now.t → seen_sheet (sheet_of lines.new tokens.new text.new result)
+        ≡ seen_sheet (write_all (sheet_of lines.old tokens.old text.old out) (jump_of E src.now.f.now block i a (uses_of E src.now.f.now item n))) }
 {
-    if is_block(f, a) {
-        return to_block(lines, tokens, text, out, f, block, i, a);
+    if is_block(src.f, a) {
+        return to_block(lines, tokens, text, out, src.f, block, i, a);
     }
-    leave(
-        lines, tokens, text, out, f, t, places, numbers, offs, placed, names, i, a, item, n,
-    )
+    leave(lines, tokens, text, out, src, i, a, item, n)
 }
 
 // A branch without a condition; it is computed where it goes to no address.
@@ -82,34 +72,22 @@ fn plain_branch(
     tokens: &mut [u64],
     text: &mut [u8],
     out: Out,
-    f: &[u8],
-    t: u32,
-    places: Places,
-    numbers: &[u32],
-    offs: &[u64],
-    placed: &[u32],
-    names: &[u32],
+    src: &Source<'_>,
     block: u32,
     i: u32,
     item: u32,
     count: u32,
 ) -> Out
-    requires told { Told f.now t places numbers.now offs.now placed.now names.now }
-    requires branch_at { BranchAt f.now block i item }
-    ensures { (E : Edition) → text_of E ≡ t → seen_sheet (sheet_of lines.new tokens.new text.new result)
-        ≡ seen_sheet (write_all (sheet_of lines.old tokens.old text.old out) (plain_of E f.now block i item count)) }
+    requires { BranchAt src.now.f.now block i item }
+    ensures { (E : Edition) → text_of E ≡ src.now.t → seen_sheet (sheet_of lines.new tokens.new text.new result)
+        ≡ seen_sheet (write_all (sheet_of lines.old tokens.old text.old out) (plain_of E src.now.f.now block i item count)) }
 {
-    let to = goal(f, block, i);
+    let to = goal(src.f, block, i);
     if to.there {
-        let n = least_of(count, stmt_field(f, i, 6));
-        return jump_to(
-            lines, tokens, text, out, f, t, places, numbers, offs, placed, names, block, i,
-            to.address, item, n,
-        );
+        let n = least_of(count, stmt_field(src.f, i, 6));
+        return jump_to(lines, tokens, text, out, src, block, i, to.address, item, n);
     }
-    computed(
-        lines, tokens, text, out, f, t, places, numbers, offs, placed, names, i, item,
-    )
+    computed(lines, tokens, text, out, src, i, item)
 }
 
 // Of the statement i in a block, with `count` argument registers set; its uses are list items from `item` on, and `setter` set the block's flags.
@@ -118,35 +96,24 @@ pub fn branch(
     tokens: &mut [u64],
     text: &mut [u8],
     out: Out,
-    f: &[u8],
-    t: u32,
-    places: Places,
-    numbers: &[u32],
-    offs: &[u64],
-    placed: &[u32],
-    names: &[u32],
+    src: &Source<'_>,
     block: u32,
     i: u32,
     item: u32,
     count: u32,
     setter: Found,
 ) -> Out
-    requires told { Told f.now t places numbers.now offs.now placed.now names.now }
-    requires branch_at { BranchAt f.now block i item }
-    requires set { Set f.now t (first_stmt f.now block) (block_stmts f.now block) setter }
-    ensures { (E : Edition) (pend : List Stmt) (set : List ℕ) → text_of E ≡ t → count ≡ count_set set (read E f.now).args
+    requires branch_at { BranchAt src.now.f.now block i item }
+    requires set { Set src.now.f.now src.now.t (first_stmt src.now.f.now block) (block_stmts src.now.f.now block) setter }
+    ensures { (E : Edition) (pend : List Stmt) (set : List ℕ) → text_of E ≡ src.now.t → count ≡ count_set set (read E src.now.f.now).args
         → seen_sheet (sheet_of lines.new tokens.new text.new result)
-        ≡ seen_sheet (write_all (sheet_of lines.old tokens.old text.old out) (lowered E f.now (here_at E f.now block) pend set (first_stmt f.now block + block_stmts f.now block) i)) }
+        ≡ seen_sheet (write_all (sheet_of lines.old tokens.old text.old out) (lowered E src.now.f.now (here_at E src.now.f.now block) pend set (first_stmt src.now.f.now block + block_stmts src.now.f.now block) i)) }
 {
-    if is_dead(f, i) {
+    if is_dead(src.f, i) {
         return out;
     }
-    if stmt_field(f, i, 0) == 1 {
-        return conditional(
-            lines, tokens, text, out, f, t, places, numbers, offs, placed, names, block, i, setter,
-        );
+    if stmt_field(src.f, i, 0) == 1 {
+        return conditional(lines, tokens, text, out, src, block, i, setter);
     }
-    plain_branch(
-        lines, tokens, text, out, f, t, places, numbers, offs, placed, names, block, i, item, count,
-    )
+    plain_branch(lines, tokens, text, out, src, block, i, item, count)
 }

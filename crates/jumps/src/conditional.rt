@@ -4,7 +4,6 @@ ghost use Rattle.definition.specs.Edition.{Edition, blocks};
 ghost use Rattle.definition.specs.Contents.{size, text as text_of};
 ghost use Rattle.definition.specs.Owners.{block_stmts, first_stmt};
 ghost use Rattle.room.specs.Room.{room_of, emit_all, seen, sheet_of, write_all, seen_sheet};
-ghost use Rattle.render.specs.Told.{Told};
 ghost use Rattle.conditions.specs.Pairs.{Set};
 ghost use Rattle.jumps.specs.Written.{condition_of, if_tokens, aim_of, test_tokens, fall_of, if_lines};
 
@@ -15,9 +14,9 @@ use labels::is_next;
 use render::kinds::{KEYWORD, PUNCT, SYMBOL};
 use lowering::line::end_stmt;
 use pieces::put::put;
-use places::Places;
 use records::contents::stmt_long;
 use records::owners::stmt_field;
+use render::source::Source;
 use room::out::Out;
 use ssa::block::block_at;
 
@@ -40,27 +39,18 @@ fn put_tested(
     tokens: &mut [u64],
     text: &mut [u8],
     out: Out,
-    f: &[u8],
-    t: u32,
-    places: Places,
-    numbers: &[u32],
-    offs: &[u64],
-    placed: &[u32],
-    names: &[u32],
+    src: &Source<'_>,
     block: u32,
     i: u32,
     setter: Found,
 ) -> Out
-    requires told { Told f.now t places numbers.now offs.now placed.now names.now }
-    requires set { Set f.now t (first_stmt f.now block) (block_stmts f.now block) setter }
-    ensures { (E : Edition) → text_of E ≡ t → seen (room_of tokens.new text.new result)
-        ≡ seen (emit_all (room_of tokens.old text.old out) (condition_of E f.now block i)) }
+    requires { Set src.now.f.now src.now.t (first_stmt src.now.f.now block) (block_stmts src.now.f.now block) setter }
+    ensures { (E : Edition) → text_of E ≡ src.now.t → seen (room_of tokens.new text.new result)
+        ≡ seen (emit_all (room_of tokens.old text.old out) (condition_of E src.now.f.now block i)) }
 {
-    let start = stmt_field(f, i, 1);
-    let len = stmt_field(f, i, 2);
-    put_condition(
-        tokens, text, out, f, t, places, numbers, offs, placed, names, setter, start, len,
-    )
+    let start = stmt_field(src.f, i, 1);
+    let len = stmt_field(src.f, i, 2);
+    put_condition(tokens, text, out, src, setter, start, len)
 }
 
 // `if (C`
@@ -68,27 +58,18 @@ fn put_if(
     tokens: &mut [u64],
     text: &mut [u8],
     out: Out,
-    f: &[u8],
-    t: u32,
-    places: Places,
-    numbers: &[u32],
-    offs: &[u64],
-    placed: &[u32],
-    names: &[u32],
+    src: &Source<'_>,
     block: u32,
     i: u32,
     setter: Found,
 ) -> Out
-    requires told { Told f.now t places numbers.now offs.now placed.now names.now }
-    requires set { Set f.now t (first_stmt f.now block) (block_stmts f.now block) setter }
-    ensures { (E : Edition) → text_of E ≡ t → seen (room_of tokens.new text.new result)
-        ≡ seen (emit_all (room_of tokens.old text.old out) (if_tokens E f.now block i)) }
+    requires { Set src.now.f.now src.now.t (first_stmt src.now.f.now block) (block_stmts src.now.f.now block) setter }
+    ensures { (E : Edition) → text_of E ≡ src.now.t → seen (room_of tokens.new text.new result)
+        ≡ seen (emit_all (room_of tokens.old text.old out) (if_tokens E src.now.f.now block i)) }
 {
     let out = put(tokens, text, out, KEYWORD, b"if");
     let out = put(tokens, text, out, PUNCT, b" (");
-    put_tested(
-        tokens, text, out, f, t, places, numbers, offs, placed, names, block, i, setter,
-    )
+    put_tested(tokens, text, out, src, block, i, setter)
 }
 
 // `if (C) goto NAME;`
@@ -96,28 +77,19 @@ fn put_test(
     tokens: &mut [u64],
     text: &mut [u8],
     out: Out,
-    f: &[u8],
-    t: u32,
-    places: Places,
-    numbers: &[u32],
-    offs: &[u64],
-    placed: &[u32],
-    names: &[u32],
+    src: &Source<'_>,
     block: u32,
     i: u32,
     setter: Found,
 ) -> Out
-    requires told { Told f.now t places numbers.now offs.now placed.now names.now }
-    requires set { Set f.now t (first_stmt f.now block) (block_stmts f.now block) setter }
-    ensures { (E : Edition) → text_of E ≡ t → seen (room_of tokens.new text.new result)
-        ≡ seen (emit_all (room_of tokens.old text.old out) (test_tokens E f.now block i)) }
+    requires { Set src.now.f.now src.now.t (first_stmt src.now.f.now block) (block_stmts src.now.f.now block) setter }
+    ensures { (E : Edition) → text_of E ≡ src.now.t → seen (room_of tokens.new text.new result)
+        ≡ seen (emit_all (room_of tokens.old text.old out) (test_tokens E src.now.f.now block i)) }
 {
-    let a = aim(f, block, i);
-    let out = put_if(
-        tokens, text, out, f, t, places, numbers, offs, placed, names, block, i, setter,
-    );
+    let a = aim(src.f, block, i);
+    let out = put_if(tokens, text, out, src, block, i, setter);
     let out = put(tokens, text, out, PUNCT, b") ");
-    put_goto_name(tokens, text, out, SYMBOL, f, t, a)
+    put_goto_name(tokens, text, out, SYMBOL, src.f, src.t, a)
 }
 
 // The goto to where the block falls, unless the next block is meant.
@@ -152,26 +124,17 @@ pub fn conditional(
     tokens: &mut [u64],
     text: &mut [u8],
     out: Out,
-    f: &[u8],
-    t: u32,
-    places: Places,
-    numbers: &[u32],
-    offs: &[u64],
-    placed: &[u32],
-    names: &[u32],
+    src: &Source<'_>,
     block: u32,
     i: u32,
     setter: Found,
 ) -> Out
-    requires told { Told f.now t places numbers.now offs.now placed.now names.now }
-    requires block_bound { block < size f.now blocks }
-    requires set { Set f.now t (first_stmt f.now block) (block_stmts f.now block) setter }
-    ensures { (E : Edition) → text_of E ≡ t → seen_sheet (sheet_of lines.new tokens.new text.new result)
-        ≡ seen_sheet (write_all (sheet_of lines.old tokens.old text.old out) (if_lines E f.now block i)) }
+    requires block_bound { block < size src.now.f.now blocks }
+    requires set { Set src.now.f.now src.now.t (first_stmt src.now.f.now block) (block_stmts src.now.f.now block) setter }
+    ensures { (E : Edition) → text_of E ≡ src.now.t → seen_sheet (sheet_of lines.new tokens.new text.new result)
+        ≡ seen_sheet (write_all (sheet_of lines.old tokens.old text.old out) (if_lines E src.now.f.now block i)) }
 {
-    let out = put_test(
-        tokens, text, out, f, t, places, numbers, offs, placed, names, block, i, setter,
-    );
-    let out = end_stmt(lines, out, f, i);
-    fall_line(lines, tokens, text, out, f, t, block, i)
+    let out = put_test(tokens, text, out, src, block, i, setter);
+    let out = end_stmt(lines, out, src.f, i);
+    fall_line(lines, tokens, text, out, src.f, src.t, block, i)
 }

@@ -12,27 +12,13 @@ use Rattle.definition.specs.Lists.{sum_below}
 use Rattle.definition.specs.Contents.{size}
 use Rattle.definition.specs.Owners.{block_stmts, first_stmt, first_item}
 use Rattle.definition.specs.Shape.{owned}
-use Rattle.places.specs.declared.Places.{Places}
-use Rattle.places.specs.Keys.{places_of}
 use Rattle.records.proofs.Items.{size_small}
 use Rattle.naming.proofs.Small.{parts_next, parts_below}
 use Rattle.room.specs.declared.out.Out.{Out}
 use Rattle.conditions.specs.declared.operands.Found.{Found}
 use Rattle.conditions.specs.Pairs.{Set}
 use Rattle.lower.specs.declared.block.Walk.{Walk}
-use Rattle.lower.specs.Given.{Lowers, Known, Stands}
-
--- ---- what is given, by the places that the code found
-pub known_at : (f : List ℕ) (t : ℕ) (P : Places) (numbers offs placed names live phi roots marks labels : List ℕ) → P ≡ places_of f
-    → Lowers f t numbers offs placed names live phi roots marks labels → Known f t P numbers offs placed names live phi roots marks
-known_at f t P numbers offs placed names live phi roots marks labels e g =
-    record {
-      told = rw e g.told;
-      shape = g.shape;
-      times = g.times;
-      flows = g.flows;
-      classed = g.classed;
-    }
+use Rattle.lower.specs.Given.{Stands}
 
 -- ---- where a walk stands
 pub stands_first : (f : List ℕ) (o : Out) → Stands f (first_stmt f 0) (record { out = o; stmt = 0; item = 0 })

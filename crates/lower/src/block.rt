@@ -4,12 +4,12 @@ ghost use Rattle.definition.specs.Edition.{Edition, blocks};
 ghost use Rattle.definition.specs.Contents.{size, text as text_of};
 ghost use Rattle.definition.specs.Owners.{block_stmts, first_stmt};
 ghost use Rattle.definition.specs.Blocks.{lower_stmts, lower_block};
-ghost use Rattle.labels.specs.Labels.{Labels};
 ghost use Rattle.room.specs.Room.{sheet_of, seen_sheet, write_all};
 ghost use Rattle.lowering.specs.Lowered.{lowering_of, here_at};
 ghost use Rattle.conditions.specs.Pairs.{Set};
-ghost use Rattle.lower.specs.Given.{Known, Stands};
+ghost use Rattle.lower.specs.Given.{Stands};
 
+use crate::given::Given;
 use crate::stmt::stmt;
 use calls::ends::last_leaves;
 use calls::pushes::from_behind;
@@ -18,7 +18,6 @@ use conditions::operands::{Found, operands};
 use defined::value::next_item;
 use gotos::closing::closing;
 use gotos::label::label;
-use places::Places;
 use records::owners::block_stmts;
 use room::out::Out;
 
@@ -36,27 +35,16 @@ fn stmts(
     tokens: &mut [u64],
     text: &mut [u8],
     w: Walk,
-    f: &[u8],
-    t: u32,
-    places: Places,
-    numbers: &[u32],
-    offs: &[u64],
-    placed: &[u32],
-    names: &[u32],
-    live: &[u32],
-    phi: &[u32],
-    roots: &[u32],
-    marks: &[u32],
+    given: &Given<'_>,
     block: u32,
     end: u32,
     setter: Found,
 ) -> Walk
-    requires known { Known f.now t places numbers.now offs.now placed.now names.now live.now phi.now roots.now marks.now }
-    requires block_bound { (block < size f.now blocks) × (Stands f.now (first_stmt f.now block) w) × (end ≡ first_stmt f.now block + block_stmts f.now block) }
-    requires set { Set f.now t (first_stmt f.now block) (block_stmts f.now block) setter }
-    ensures { (Stands f.now end result) × ((E : Edition) → text_of E ≡ t
+    requires block_bound { (block < size given.now.src.f.now blocks) × (Stands given.now.src.f.now (first_stmt given.now.src.f.now block) w) × (end ≡ first_stmt given.now.src.f.now block + block_stmts given.now.src.f.now block) }
+    requires set { Set given.now.src.f.now given.now.src.t (first_stmt given.now.src.f.now block) (block_stmts given.now.src.f.now block) setter }
+    ensures { (Stands given.now.src.f.now end result) × ((E : Edition) → text_of E ≡ given.now.src.t
         → seen_sheet (sheet_of lines.new tokens.new text.new result.out)
-        ≡ seen_sheet (write_all (sheet_of lines.old tokens.old text.old w.out) (lower_stmts (lowering_of E f.now) (here_at E f.now block) [] [] (here_at E f.now block).block.stmts))) }
+        ≡ seen_sheet (write_all (sheet_of lines.old tokens.old text.old w.out) (lower_stmts (lowering_of E given.now.src.f.now) (here_at E given.now.src.f.now block) [] [] (here_at E given.now.src.f.now block).block.stmts))) }
 {
     let mut out = w.out;
     let mut item = w.item;
@@ -65,12 +53,11 @@ fn stmts(
     let mut i = w.stmt;
     while i < end {
         out = stmt(
-            lines, tokens, text, out, f, t, places, numbers, offs, placed, names, live, phi, roots,
-            marks, block, i, end, item, from, count, setter,
+            lines, tokens, text, out, given, block, i, end, item, from, count, setter,
         );
-        item = next_item(f, i, item);
-        from = from_behind(f, i, from);
-        count = set_behind(f, i, count);
+        item = next_item(given.src.f, i, item);
+        from = from_behind(given.src.f, i, from);
+        count = set_behind(given.src.f, i, count);
         i += 1;
     }
     Walk {
@@ -85,58 +72,26 @@ pub fn lower_block(
     tokens: &mut [u64],
     text: &mut [u8],
     w: Walk,
-    f: &[u8],
-    t: u32,
-    places: Places,
-    numbers: &[u32],
-    offs: &[u64],
-    placed: &[u32],
-    names: &[u32],
-    live: &[u32],
-    phi: &[u32],
-    roots: &[u32],
-    marks: &[u32],
-    labels: &[u32],
+    given: &Given<'_>,
     block: u32,
 ) -> Walk
-    requires known { Known f.now t places numbers.now offs.now placed.now names.now live.now phi.now roots.now marks.now }
-    requires labels { Labels f.now (length labels.now) labels.now }
-    requires block_bound { (block < size f.now blocks) × (Stands f.now (first_stmt f.now block) w) }
-    ensures { (Stands f.now (first_stmt f.now (block + 1)) result) × ((E : Edition) → text_of E ≡ t
+    requires block_bound { (block < size given.now.src.f.now blocks) × (Stands given.now.src.f.now (first_stmt given.now.src.f.now block) w) }
+    ensures { (Stands given.now.src.f.now (first_stmt given.now.src.f.now (block + 1)) result) × ((E : Edition) → text_of E ≡ given.now.src.t
         → seen_sheet (sheet_of lines.new tokens.new text.new result.out)
-        ≡ seen_sheet (write_all (sheet_of lines.old tokens.old text.old w.out) (lower_block (lowering_of E f.now) (here_at E f.now block)))) }
+        ≡ seen_sheet (write_all (sheet_of lines.old tokens.old text.old w.out) (lower_block (lowering_of E given.now.src.f.now) (here_at E given.now.src.f.now block)))) }
 {
     let first = w.stmt;
-    let n = block_stmts(f, block);
-    let leaves = last_leaves(f, first, n);
-    let setter = operands(f, t, first, n);
-    let out = label(lines, tokens, text, w.out, f, labels, block);
+    let n = block_stmts(given.src.f, block);
+    let leaves = last_leaves(given.src.f, first, n);
+    let setter = operands(given.src.f, given.src.t, first, n);
+    let out = label(lines, tokens, text, w.out, given.src.f, given.labels, block);
     let begun = Walk {
         out: out,
         stmt: first,
         item: w.item,
     };
-    let v = stmts(
-        lines,
-        tokens,
-        text,
-        begun,
-        f,
-        t,
-        places,
-        numbers,
-        offs,
-        placed,
-        names,
-        live,
-        phi,
-        roots,
-        marks,
-        block,
-        first + n,
-        setter,
-    );
-    let out = closing(lines, tokens, text, v.out, f, block, leaves);
+    let v = stmts(lines, tokens, text, begun, given, block, first + n, setter);
+    let out = closing(lines, tokens, text, v.out, given.src.f, block, leaves);
     Walk {
         out: out,
         stmt: v.stmt,

@@ -2,6 +2,7 @@
 #![tactic(auto)]
 
 mod block;
+mod given;
 mod stmt;
 
 ghost use Rattle.std.specs.Prelude.{◌≡◌};
@@ -15,33 +16,51 @@ ghost use Rattle.room.specs.Room.{sheet_of, seen_sheet, write_all};
 ghost use Rattle.lower.specs.Given.{Lowers};
 
 use crate::block::{Walk, lower_block};
+use crate::given::Given;
 use places::places_of;
 use records::contents::{BLOCKS, size_of};
+use render::source::Source;
 use room::out::Out;
 
 // All blocks, from an empty sheet on.
-pub fn lower(
+pub fn lower<'a>(
     lines: &mut [u64],
     tokens: &mut [u64],
     text: &mut [u8],
-    f: &[u8],
+    f: &'a [u8],
     t: u32,
-    numbers: &[u32],
-    offs: &[u64],
-    placed: &[u32],
-    names: &[u32],
-    live: &[u32],
-    phi: &[u32],
-    roots: &[u32],
-    marks: &[u32],
-    labels: &[u32],
+    numbers: &'a [u32],
+    offs: &'a [u64],
+    placed: &'a [u32],
+    names: &'a [u32],
+    live: &'a [u32],
+    phi: &'a [u32],
+    roots: &'a [u32],
+    marks: &'a [u32],
+    labels: &'a [u32],
 ) -> Out
     requires { Lowers f.now t numbers.now offs.now placed.now names.now live.now phi.now roots.now marks.now labels.now }
     ensures { (E : Edition) → text_of E ≡ t
         → seen_sheet (sheet_of lines.new tokens.new text.new result)
         ≡ seen_sheet (write_all (sheet_of lines.old tokens.old text.old fresh) (lower_of (read E f.now) (offsets (read E f.now)))) }
 {
-    let places = places_of(f);
+    let src = Source {
+        f,
+        t,
+        places: places_of(f),
+        numbers,
+        offs,
+        placed,
+        names,
+    };
+    let given = Given {
+        src,
+        live,
+        phi,
+        roots,
+        marks,
+        labels,
+    };
     let n = size_of(f, BLOCKS);
     let out = Out::start();
     let mut w = Walk {
@@ -51,10 +70,7 @@ pub fn lower(
     };
     let mut b = 0;
     while b < n {
-        w = lower_block(
-            lines, tokens, text, w, f, t, places, numbers, offs, placed, names, live, phi, roots,
-            marks, labels, b,
-        );
+        w = lower_block(lines, tokens, text, w, &given, b);
         b += 1;
     }
     w.out

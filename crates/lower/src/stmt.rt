@@ -9,12 +9,12 @@ ghost use Rattle.calls.specs.Waiting.{pending};
 ghost use Rattle.room.specs.Room.{sheet_of, seen_sheet, write_all};
 ghost use Rattle.lowering.specs.Lowered.{lowered, here_at};
 ghost use Rattle.conditions.specs.Pairs.{Set};
-ghost use Rattle.lower.specs.Given.{Known, StmtAt};
+ghost use Rattle.lower.specs.Given.{StmtAt};
 
+use crate::given::Given;
 use calling::call::call;
 use conditions::operands::Found;
 use jumps::branch::branch;
-use places::Places;
 use plain::assign::assign;
 use plain::other::other;
 use plain::returns::returns;
@@ -28,17 +28,7 @@ pub fn stmt(
     tokens: &mut [u64],
     text: &mut [u8],
     out: Out,
-    f: &[u8],
-    t: u32,
-    places: Places,
-    numbers: &[u32],
-    offs: &[u64],
-    placed: &[u32],
-    names: &[u32],
-    live: &[u32],
-    phi: &[u32],
-    roots: &[u32],
-    marks: &[u32],
+    given: &Given<'_>,
     block: u32,
     i: u32,
     end: u32,
@@ -47,49 +37,44 @@ pub fn stmt(
     count: u32,
     setter: Found,
 ) -> Out
-    requires known { Known f.now t places numbers.now offs.now placed.now names.now live.now phi.now roots.now marks.now }
-    requires stmt_at { StmtAt f.now block i end item }
-    requires set { Set f.now t (first_stmt f.now block) (block_stmts f.now block) setter }
-    ensures { (E : Edition) (set : List ℕ) → text_of E ≡ t → count ≡ count_set set (read E f.now).args
+    requires stmt_at { StmtAt given.now.src.f.now block i end item }
+    requires set { Set given.now.src.f.now given.now.src.t (first_stmt given.now.src.f.now block) (block_stmts given.now.src.f.now block) setter }
+    ensures { (E : Edition) (set : List ℕ) → text_of E ≡ given.now.src.t → count ≡ count_set set (read E given.now.src.f.now).args
         → seen_sheet (sheet_of lines.new tokens.new text.new result)
-        ≡ seen_sheet (write_all (sheet_of lines.old tokens.old text.old out) (lowered E f.now (here_at E f.now block) (pending E f.now from i) set end i)) }
+        ≡ seen_sheet (write_all (sheet_of lines.old tokens.old text.old out) (lowered E given.now.src.f.now (here_at E given.now.src.f.now block) (pending E given.now.src.f.now from i) set end i)) }
 {
-    let s = stmt_at(f, i, item);
+    let s = stmt_at(given.src.f, i, item);
     let kind = s.kind;
     match kind {
         Kind::Assign(_) => {
             assign(
-                lines, tokens, text, out, f, t, places, numbers, offs, placed, names, roots, marks,
-                i, end,
+                lines,
+                tokens,
+                text,
+                out,
+                &given.src,
+                given.roots,
+                given.marks,
+                i,
+                end,
             )
         }
-        Kind::Store(_) => {
-            store(
-                lines, tokens, text, out, f, t, places, numbers, offs, placed, names, i, end,
-            )
-        }
+        Kind::Store(_) => { store(lines, tokens, text, out, &given.src, i, end) }
         Kind::Call(_) => {
             call(
-                lines, tokens, text, out, f, t, places, numbers, offs, placed, names, live, phi, i,
-                item, from, count,
+                lines, tokens, text, out, &given.src, given.live, given.phi, i, item, from, count,
             )
         }
         Kind::Branch(_) => {
             branch(
-                lines, tokens, text, out, f, t, places, numbers, offs, placed, names, block, i,
-                item, count, setter,
+                lines, tokens, text, out, &given.src, block, i, item, count, setter,
             )
         }
         Kind::Flags(_) => out,
-        Kind::Return(_) => {
-            returns(
-                lines, tokens, text, out, f, t, places, numbers, offs, placed, names, i, end,
-            )
-        }
+        Kind::Return(_) => { returns(lines, tokens, text, out, &given.src, i, end) }
         Kind::Other(_) => {
             other(
-                lines, tokens, text, out, f, t, places, numbers, offs, placed, names, live, phi, i,
-                end, item,
+                lines, tokens, text, out, &given.src, given.live, given.phi, i, end, item,
             )
         }
     }

@@ -17,7 +17,6 @@ ghost use Rattle.values.specs.Tables.{table};
 ghost use Rattle.sums.specs.Ground.{Ground};
 ghost use Rattle.names.specs.Codes.{name_text};
 ghost use Rattle.room.specs.Room.{room_of, sheet_of, emit, emit_all, seen, seen_sheet, write_all};
-ghost use Rattle.render.specs.Told.{Told};
 ghost use Rattle.lowering.specs.Lowered.{lowering_of, lowered};
 ghost use Rattle.plain.specs.Classed.{Classed};
 ghost use Rattle.plain.specs.Pieces.{gone_by, restored_by, assign_of};
@@ -31,48 +30,35 @@ use places::Places;
 use records::contents::{EXPRESSIONS, expr_word, size_of};
 use records::owners::{LOAD, is_dead, stmt_field};
 use render::code::put_code;
+use render::source::Source;
 use room::out::Out;
 use slices::get;
 use sums::address::stack_off;
 use text::registers::Register;
 
 // Whether expression n loads from a slot. As in the definition, a child that is not lower is no address.
-fn is_stack_load(offs: &[u64], f: &[u8], t: u32, numbers: &[u32], places: Places, n: u32) -> bool
-    requires ground { Ground f.now numbers.now places }
-    requires offs_value { (E : Edition) → text_of E ≡ t → offs.now ≡ table f.now (length numbers.now) (look (offsets (read E f.now))) }
-    ensures { (E : Edition) → text_of E ≡ t → result ≡ is_stack_load (lowering_of E f.now) (tree_at (all_trees E f.now) n) }
+fn is_stack_load(src: &Source<'_>, n: u32) -> bool
+    ensures { (E : Edition) → text_of E ≡ src.now.t → result ≡ is_stack_load (lowering_of E src.now.f.now) (tree_at (all_trees E src.now.f.now) n) }
 {
-    if n >= size_of(f, EXPRESSIONS) || expr_word(f, n, 0) != LOAD {
+    if n >= size_of(src.f, EXPRESSIONS) || expr_word(src.f, n, 0) != LOAD {
         return false;
     }
-    let a = expr_word(f, n, 2);
-    a < n && stack_off(offs, f, t, numbers, places, a) != 0
+    let a = expr_word(src.f, n, 2);
+    a < n && stack_off(src.offs, src.f, src.t, src.numbers, src.places, a) != 0
 }
 
 // Whether it restores a callee-saved register, value m: a load from a slot of which no value of its class is really read.
 #[tactic(auto, unfolding(crate::specs::Pieces::restored_by))]
-fn is_restore(
-    offs: &[u64],
-    f: &[u8],
-    t: u32,
-    numbers: &[u32],
-    places: Places,
-    roots: &[u32],
-    marks: &[u32],
-    i: u32,
-    m: usize,
-) -> bool
-    requires ground { Ground f.now numbers.now places }
-    requires offs_value { (E : Edition) → text_of E ≡ t → offs.now ≡ table f.now (length numbers.now) (look (offsets (read E f.now))) }
-    ensures { (E : Edition) → text_of E ≡ t → result ≡ restored_by f.now i (at marks.now (at roots.now m))
-        (is_stack_load (lowering_of E f.now) (tree_at (all_trees E f.now) (stmt_field f.now i 2))) }
+fn is_restore(src: &Source<'_>, roots: &[u32], marks: &[u32], i: u32, m: usize) -> bool
+    ensures { (E : Edition) → text_of E ≡ src.now.t → result ≡ restored_by src.now.f.now i (at marks.now (at roots.now m))
+        (is_stack_load (lowering_of E src.now.f.now) (tree_at (all_trees E src.now.f.now) (stmt_field src.now.f.now i 2))) }
 {
     let x = Register {
-        number: stmt_field(f, i, 0),
+        number: stmt_field(src.f, i, 0),
     };
     x.callee_saved()
         && get(marks, get(roots, m) as usize) == 0
-        && is_stack_load(offs, f, t, numbers, places, stmt_field(f, i, 2))
+        && is_stack_load(src, stmt_field(src.f, i, 2))
 }
 
 // Whether it is dead, RSP's, or value m is written in place.
@@ -103,66 +89,36 @@ fn put_name(
     put_code(tokens, text, out, width, reg, code)
 }
 
-fn put_assign(
-    tokens: &mut [u64],
-    text: &mut [u8],
-    out: Out,
-    f: &[u8],
-    t: u32,
-    places: Places,
-    numbers: &[u32],
-    offs: &[u64],
-    placed: &[u32],
-    names: &[u32],
-    i: u32,
-) -> Out
-    requires told { Told f.now t places numbers.now offs.now placed.now names.now }
-    requires i_value { (stmt_kind f.now i ≡ k_assign) × (i < size f.now statements) }
-    ensures { (E : Edition) → text_of E ≡ t → seen (room_of tokens.new text.new result)
-        ≡ seen (emit_all (room_of tokens.old text.old out) (assign_of E f.now i)) }
+fn put_assign(tokens: &mut [u64], text: &mut [u8], out: Out, src: &Source<'_>, i: u32) -> Out
+    requires { (stmt_kind src.now.f.now i ≡ k_assign) × (i < size src.now.f.now statements) }
+    ensures { (E : Edition) → text_of E ≡ src.now.t → seen (room_of tokens.new text.new result)
+        ≡ seen (emit_all (room_of tokens.old text.old out) (assign_of E src.now.f.now i)) }
 {
-    let n = stmt_field(f, i, 2);
-    let m = number_of(numbers, places.stmts, i);
-    let out = put_name(tokens, text, out, f, names, i, m);
+    let n = stmt_field(src.f, i, 2);
+    let m = number_of(src.numbers, src.places.stmts, i);
+    let out = put_name(tokens, text, out, src.f, src.names, i, m);
     put_within(
-        tokens, text, out, f, t, places, numbers, offs, placed, names, b" = ", n, b";",
+        tokens, text, out, src, b" = ", n, b";",
     )
 }
 
-pub fn assign(
-    lines: &mut [u64],
-    tokens: &mut [u64],
-    text: &mut [u8],
-    out: Out,
-    f: &[u8],
-    t: u32,
-    places: Places,
-    numbers: &[u32],
-    offs: &[u64],
-    placed: &[u32],
-    names: &[u32],
-    roots: &[u32],
-    marks: &[u32],
-    i: u32,
-    end: u32,
-) -> Out
-    requires told { Told f.now t places numbers.now offs.now placed.now names.now }
-    requires i_value { stmt_kind f.now i ≡ k_assign }
-    requires i_lt_end { (i < end) × (end ≤ size f.now statements) }
-    requires classed { Classed f.now t (length numbers.now) offs.now roots.now marks.now }
-    ensures { (E : Edition) (H : Here) (pend : List Stmt) (set : List ℕ) → text_of E ≡ t
+pub fn assign(lines: &mut [u64], tokens: &mut [u64], text: &mut [u8], out: Out, src: &Source<'_>, roots: &[u32], marks: &[u32], i: u32, end: u32) -> Out
+    requires i_value { stmt_kind src.now.f.now i ≡ k_assign }
+    requires i_lt_end { (i < end) × (end ≤ size src.now.f.now statements) }
+    requires classed { Classed src.now.f.now src.now.t (length src.now.numbers.now) src.now.offs.now roots.now marks.now }
+    ensures { (E : Edition) (H : Here) (pend : List Stmt) (set : List ℕ) → text_of E ≡ src.now.t
         → seen_sheet (sheet_of lines.new tokens.new text.new result)
-        ≡ seen_sheet (write_all (sheet_of lines.old tokens.old text.old out) (lowered E f.now H pend set end i)) }
+        ≡ seen_sheet (write_all (sheet_of lines.old tokens.old text.old out) (lowered E src.now.f.now H pend set end i)) }
 {
-    let m = number_of(numbers, places.stmts, i);
-    if is_gone(f, placed, i, m) {
+    let m = number_of(src.numbers, src.places.stmts, i);
+    if is_gone(src.f, src.placed, i, m) {
         return out;
     }
-    if is_restore(offs, f, t, numbers, places, roots, marks, i, m) {
+    if is_restore(src, roots, marks, i, m) {
         return out;
     }
     let out = put_assign(
-        tokens, text, out, f, t, places, numbers, offs, placed, names, i,
+        tokens, text, out, src, i,
     );
-    end_stmt(lines, out, f, i)
+    end_stmt(lines, out, src.f, i)
 }

@@ -10,7 +10,6 @@ ghost use Rattle.definition.specs.Tokens.{textual};
 ghost use Rattle.definition.specs.Lower.{Here};
 ghost use Rattle.reads.specs.Counts.{LiveReads, PhiReads};
 ghost use Rattle.room.specs.Room.{room_of, sheet_of, emit_all, seen, seen_sheet, write_all};
-ghost use Rattle.render.specs.Told.{Told};
 ghost use Rattle.lowering.specs.Lowered.{lowered};
 ghost use Rattle.plain.specs.Asm.{asm_block, asm_call, asm_of, other_of};
 
@@ -19,11 +18,11 @@ use lowering::line::end_stmt;
 use meaning::meaning::bits_of;
 use pieces::from_file::put_part;
 use pieces::put::put;
-use places::Places;
 use records::contents::offset_of;
 use records::owners::{is_dead, stmt_field};
 use render::code::put_code;
 use render::kinds::{KEYWORD, PUNCT, TEXT};
+use render::source::Source;
 use room::out::Out;
 use ssa::parts::Text;
 
@@ -86,68 +85,34 @@ fn put_asm(tokens: &mut [u64], text: &mut [u8], out: Out, f: &[u8], t: u32, x: T
     }
 }
 
-fn put_other(
-    tokens: &mut [u64],
-    text: &mut [u8],
-    out: Out,
-    f: &[u8],
-    t: u32,
-    places: Places,
-    numbers: &[u32],
-    offs: &[u64],
-    placed: &[u32],
-    names: &[u32],
-    live: &[u32],
-    phi: &[u32],
-    i: u32,
-    first: u32,
-) -> Out
-    requires told { Told f.now t places numbers.now offs.now placed.now names.now }
-    requires live_reads { (LiveReads f.now (length numbers.now) live.now) × (PhiReads f.now (length numbers.now) phi.now) }
-    requires i_bound { (i < size f.now statements) × (first ≡ first_item f.now i) }
-    ensures { (E : Edition) → text_of E ≡ t → seen (room_of tokens.new text.new result)
-        ≡ seen (emit_all (room_of tokens.old text.old out) (other_of E f.now i)) }
+fn put_other(tokens: &mut [u64], text: &mut [u8], out: Out, src: &Source<'_>, live: &[u32], phi: &[u32], i: u32, first: u32) -> Out
+    requires live_reads { (LiveReads src.now.f.now (length src.now.numbers.now) live.now) × (PhiReads src.now.f.now (length src.now.numbers.now) phi.now) }
+    requires i_bound { (i < size src.now.f.now statements) × (first ≡ first_item src.now.f.now i) }
+    ensures { (E : Edition) → text_of E ≡ src.now.t → seen (room_of tokens.new text.new result)
+        ≡ seen (emit_all (room_of tokens.old text.old out) (other_of E src.now.f.now i)) }
 {
-    let s = sets_of(f, places, numbers, names, live, phi, i, first);
+    let s = sets_of(src.f, src.places, src.numbers, src.names, live, phi, i, first);
     let x = Text {
-        start: stmt_field(f, i, 0),
-        len: stmt_field(f, i, 1),
+        start: stmt_field(src.f, i, 0),
+        len: stmt_field(src.f, i, 1),
     };
-    put_asm(tokens, text, out, f, t, x, s)
+    put_asm(tokens, text, out, src.f, src.t, x, s)
 }
 
-pub fn other(
-    lines: &mut [u64],
-    tokens: &mut [u64],
-    text: &mut [u8],
-    out: Out,
-    f: &[u8],
-    t: u32,
-    places: Places,
-    numbers: &[u32],
-    offs: &[u64],
-    placed: &[u32],
-    names: &[u32],
-    live: &[u32],
-    phi: &[u32],
-    i: u32,
-    end: u32,
-    first: u32,
-) -> Out
-    requires told { Told f.now t places numbers.now offs.now placed.now names.now }
-    requires i_value { stmt_kind f.now i ≡ k_other }
-    requires i_lt_end { (i < end) × (end ≤ size f.now statements) }
-    requires live_reads { (LiveReads f.now (length numbers.now) live.now) × (PhiReads f.now (length numbers.now) phi.now) }
-    requires first_value { first ≡ first_item f.now i }
-    ensures { (E : Edition) (H : Here) (pend : List Stmt) (set : List ℕ) → text_of E ≡ t
+pub fn other(lines: &mut [u64], tokens: &mut [u64], text: &mut [u8], out: Out, src: &Source<'_>, live: &[u32], phi: &[u32], i: u32, end: u32, first: u32) -> Out
+    requires i_value { stmt_kind src.now.f.now i ≡ k_other }
+    requires i_lt_end { (i < end) × (end ≤ size src.now.f.now statements) }
+    requires live_reads { (LiveReads src.now.f.now (length src.now.numbers.now) live.now) × (PhiReads src.now.f.now (length src.now.numbers.now) phi.now) }
+    requires first_value { first ≡ first_item src.now.f.now i }
+    ensures { (E : Edition) (H : Here) (pend : List Stmt) (set : List ℕ) → text_of E ≡ src.now.t
         → seen_sheet (sheet_of lines.new tokens.new text.new result)
-        ≡ seen_sheet (write_all (sheet_of lines.old tokens.old text.old out) (lowered E f.now H pend set end i)) }
+        ≡ seen_sheet (write_all (sheet_of lines.old tokens.old text.old out) (lowered E src.now.f.now H pend set end i)) }
 {
-    if is_dead(f, i) {
+    if is_dead(src.f, i) {
         return out;
     }
     let out = put_other(
-        tokens, text, out, f, t, places, numbers, offs, placed, names, live, phi, i, first,
+        tokens, text, out, src, live, phi, i, first,
     );
-    end_stmt(lines, out, f, i)
+    end_stmt(lines, out, src.f, i)
 }

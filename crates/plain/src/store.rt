@@ -10,7 +10,6 @@ ghost use Rattle.definition.specs.Lower.{Here};
 ghost use Rattle.values.specs.Tables.{table};
 ghost use Rattle.sums.specs.Ground.{Ground};
 ghost use Rattle.room.specs.Room.{room_of, sheet_of, emit_all, seen, seen_sheet, write_all};
-ghost use Rattle.render.specs.Told.{Told};
 ghost use Rattle.lowering.specs.Lowered.{lowered};
 ghost use Rattle.plain.specs.Pieces.{is_taken, is_silent, through_of, destination_of, store_of};
 
@@ -23,6 +22,7 @@ use pieces::put::{put, put_pointer, put_slot};
 use places::Places;
 use records::owners::{is_dead, is_pushed, stmt_field};
 use render::kinds::PUNCT;
+use render::source::Source;
 use room::out::Out;
 use sums::address::stack_off;
 
@@ -53,117 +53,62 @@ fn is_silent(
 }
 
 // `*(uintN_t *)(E)`, of so many bytes.
-fn put_through(
-    tokens: &mut [u64],
-    text: &mut [u8],
-    out: Out,
-    f: &[u8],
-    t: u32,
-    places: Places,
-    numbers: &[u32],
-    offs: &[u64],
-    placed: &[u32],
-    names: &[u32],
-    bytes: u32,
-    n: u32,
-) -> Out
-    requires { Told f.now t places numbers.now offs.now placed.now names.now }
-    ensures { (E : Edition) → text_of E ≡ t → seen (room_of tokens.new text.new result)
-        ≡ seen (emit_all (room_of tokens.old text.old out) (through_of E f.now bytes n)) }
+fn put_through(tokens: &mut [u64], text: &mut [u8], out: Out, src: &Source<'_>, bytes: u32, n: u32) -> Out
+    ensures { (E : Edition) → text_of E ≡ src.now.t → seen (room_of tokens.new text.new result)
+        ≡ seen (emit_all (room_of tokens.old text.old out) (through_of E src.now.f.now bytes n)) }
 {
     let out = put_pointer(tokens, text, out, bytes);
     let out = put(tokens, text, out, PUNCT, b"(");
     let out = put_expr(
-        tokens, text, out, f, t, places, numbers, offs, placed, names, n,
+        tokens, text, out, src, n,
     );
     put(tokens, text, out, PUNCT, b")")
 }
 
 // Where it stores: a slot, or through its address. A constant address is no global's name here.
-fn put_place(
-    tokens: &mut [u64],
-    text: &mut [u8],
-    out: Out,
-    f: &[u8],
-    t: u32,
-    places: Places,
-    numbers: &[u32],
-    offs: &[u64],
-    placed: &[u32],
-    names: &[u32],
-    i: u32,
-) -> Out
-    requires { Told f.now t places numbers.now offs.now placed.now names.now }
-    ensures { (E : Edition) → text_of E ≡ t → seen (room_of tokens.new text.new result)
-        ≡ seen (emit_all (room_of tokens.old text.old out) (destination_of E f.now i)) }
+fn put_place(tokens: &mut [u64], text: &mut [u8], out: Out, src: &Source<'_>, i: u32) -> Out
+    ensures { (E : Edition) → text_of E ≡ src.now.t → seen (room_of tokens.new text.new result)
+        ≡ seen (emit_all (room_of tokens.old text.old out) (destination_of E src.now.f.now i)) }
 {
-    let n = stmt_field(f, i, 1);
-    let s = stack_off(offs, f, t, numbers, places, n);
+    let n = stmt_field(src.f, i, 1);
+    let s = stack_off(src.offs, src.f, src.t, src.numbers, src.places, n);
     if s != 0 {
         return put_slot(tokens, text, out, s);
     }
-    let bytes = stmt_field(f, i, 0);
+    let bytes = stmt_field(src.f, i, 0);
     put_through(
-        tokens, text, out, f, t, places, numbers, offs, placed, names, bytes, n,
+        tokens, text, out, src, bytes, n,
     )
 }
 
-fn put_store(
-    tokens: &mut [u64],
-    text: &mut [u8],
-    out: Out,
-    f: &[u8],
-    t: u32,
-    places: Places,
-    numbers: &[u32],
-    offs: &[u64],
-    placed: &[u32],
-    names: &[u32],
-    i: u32,
-) -> Out
-    requires { Told f.now t places numbers.now offs.now placed.now names.now }
-    ensures { (E : Edition) → text_of E ≡ t → seen (room_of tokens.new text.new result)
-        ≡ seen (emit_all (room_of tokens.old text.old out) (store_of E f.now i)) }
+fn put_store(tokens: &mut [u64], text: &mut [u8], out: Out, src: &Source<'_>, i: u32) -> Out
+    ensures { (E : Edition) → text_of E ≡ src.now.t → seen (room_of tokens.new text.new result)
+        ≡ seen (emit_all (room_of tokens.old text.old out) (store_of E src.now.f.now i)) }
 {
-    let n = stmt_field(f, i, 2);
+    let n = stmt_field(src.f, i, 2);
     let out = put_place(
-        tokens, text, out, f, t, places, numbers, offs, placed, names, i,
+        tokens, text, out, src, i,
     );
     put_within(
-        tokens, text, out, f, t, places, numbers, offs, placed, names, b" = ", n, b";",
+        tokens, text, out, src, b" = ", n, b";",
     )
 }
 
-pub fn store(
-    lines: &mut [u64],
-    tokens: &mut [u64],
-    text: &mut [u8],
-    out: Out,
-    f: &[u8],
-    t: u32,
-    places: Places,
-    numbers: &[u32],
-    offs: &[u64],
-    placed: &[u32],
-    names: &[u32],
-    i: u32,
-    end: u32,
-) -> Out
-    requires told { Told f.now t places numbers.now offs.now placed.now names.now }
-    requires i_value { stmt_kind f.now i ≡ k_store }
-    requires i_lt_end { (i < end) × (end ≤ size f.now statements) }
-    ensures { (E : Edition) (H : Here) (pend : List Stmt) (set : List ℕ) → text_of E ≡ t
+pub fn store(lines: &mut [u64], tokens: &mut [u64], text: &mut [u8], out: Out, src: &Source<'_>, i: u32, end: u32) -> Out
+    requires i_value { stmt_kind src.now.f.now i ≡ k_store }
+    requires i_lt_end { (i < end) × (end ≤ size src.now.f.now statements) }
+    ensures { (E : Edition) (H : Here) (pend : List Stmt) (set : List ℕ) → text_of E ≡ src.now.t
         → seen_sheet (sheet_of lines.new tokens.new text.new result)
-        ≡ seen_sheet (write_all (sheet_of lines.old tokens.old text.old out) (lowered E f.now H pend set end i)) }
+        ≡ seen_sheet (write_all (sheet_of lines.old tokens.old text.old out) (lowered E src.now.f.now H pend set end i)) }
 {
-    if is_dead(f, i) {
+    if is_dead(src.f, i) {
         return out;
     }
-    if is_silent(offs, f, t, numbers, places, i, end) {
+    if is_silent(src.offs, src.f, src.t, src.numbers, src.places, i, end) {
         return out;
     }
     let out = put_store(
-        tokens, text, out, f, t, places, numbers, offs, placed, names, i,
+        tokens, text, out, src, i,
     );
-    end_stmt(lines, out, f, i)
+    end_stmt(lines, out, src.f, i)
 }

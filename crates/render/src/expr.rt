@@ -7,7 +7,7 @@ ghost use Rattle.definition.specs.Lists.{at};
 ghost use Rattle.places.specs.Keys.{value_of, keyed};
 ghost use Rattle.room.specs.Room.{room_of, emit_all, seen};
 ghost use Rattle.render.specs.Gens.{rendered, used};
-ghost use Rattle.render.specs.Told.{Told, NamedAt};
+ghost use Rattle.render.specs.Told.{NamedAt};
 ghost use Rattle.render.specs.declared.form.Form.TheVariants.{Bin as BinForm, Un as UnForm, Through as ThroughForm};
 ghost use Rattle.render.specs.Forms.{opens, rendered_below, form_tokens};
 
@@ -16,20 +16,18 @@ use crate::form::{Form, form_of};
 use crate::kinds::PUNCT;
 use crate::leaves::{put_address, put_cast, put_leaf, put_nothing, put_text};
 use crate::operators::put_operator;
+use crate::source::Source;
 use meaning::meaning::bits_of;
 use pieces::put::{put, put_if};
-use places::Places;
 use records::contents::{EXPRESSIONS, size_of};
 use records::owners::stmt_field;
 use room::out::Out;
 use slices::get;
 use ssa::node::{Bin, Load, Un};
 
-// Where an expression is: node n, which counts if it is below b, before statement `pos`. t is the text's section.
+// Where an expression is: node n, which counts if it is below b, before statement `pos`.
 #[derive(Clone, Copy)]
 struct Spot {
-    t: u32,
-    places: Places,
     pos: u32,
     b: u32,
     n: u32,
@@ -41,31 +39,17 @@ pub fn expr(
     tokens: &mut [u64],
     text: &mut [u8],
     out: Out,
-    f: &[u8],
-    t: u32,
-    places: Places,
-    numbers: &[u32],
-    offs: &[u64],
-    placed: &[u32],
-    names: &[u32],
+    src: &Source<'_>,
     pos: u32,
     n: u32,
     top: bool,
 ) -> Out
-    requires { Told f.now t places numbers.now offs.now placed.now names.now }
-    ensures { (E : Edition) → text_section E ≡ t → seen (room_of tokens.new text.new result)
-        ≡ seen (emit_all (room_of tokens.old text.old out) (rendered E f.now pos top n)) }
+    ensures { (E : Edition) → text_section E ≡ src.now.t → seen (room_of tokens.new text.new result)
+        ≡ seen (emit_all (room_of tokens.old text.old out) (rendered E src.now.f.now pos top n)) }
 {
-    let b = size_of(f, EXPRESSIONS);
-    let at = Spot {
-        t,
-        places,
-        pos,
-        b,
-        n,
-        top,
-    };
-    below(tokens, text, out, f, numbers, offs, placed, names, at)
+    let b = size_of(src.f, EXPRESSIONS);
+    let at = Spot { pos, b, n, top };
+    below(tokens, text, out, src, at)
 }
 
 // Whether place k, which is 0, or 1 more than a statement's number, is that of a statement before `pos`.
@@ -78,21 +62,10 @@ fn is_open(k: u32, pos: u32) -> bool
 
 // Expression n, where it is below b.
 #[cycle(rendering)]
-fn below(
-    tokens: &mut [u64],
-    text: &mut [u8],
-    out: Out,
-    f: &[u8],
-    numbers: &[u32],
-    offs: &[u64],
-    placed: &[u32],
-    names: &[u32],
-    at: Spot,
-) -> Out
-    requires told { Told f.now at.t at.places numbers.now offs.now placed.now names.now }
-    requires b_bound { at.b ≤ size f.now expressions }
-    ensures { (E : Edition) → text_section E ≡ at.t → seen (room_of tokens.new text.new result)
-        ≡ seen (emit_all (room_of tokens.old text.old out) (rendered_below E f.now at.pos at.b at.top at.n)) }
+fn below(tokens: &mut [u64], text: &mut [u8], out: Out, src: &Source<'_>, at: Spot) -> Out
+    requires { at.b ≤ size src.now.f.now expressions }
+    ensures { (E : Edition) → text_section E ≡ src.now.t → seen (room_of tokens.new text.new result)
+        ≡ seen (emit_all (room_of tokens.old text.old out) (rendered_below E src.now.f.now at.pos at.b at.top at.n)) }
 {
     if out.full {
         return out;
@@ -100,40 +73,24 @@ fn below(
     if at.n >= at.b {
         return put_nothing(tokens, text, out);
     }
-    let places = at.places;
-    match form_of(offs, f, at.t, numbers, places, at.n) {
-        Form::Leaf(l) => put_leaf(tokens, text, out, f, at.t, l),
+    match form_of(src, at.n) {
+        Form::Leaf(l) => put_leaf(tokens, text, out, src.f, src.t, l),
         Form::Use(r) => {
-            let place = places.exprs + at.n as usize;
-            value(
-                tokens, text, out, f, at.t, places, numbers, offs, placed, names, at.pos, place, r,
-                at.top,
-            )
+            let place = src.places.exprs + at.n as usize;
+            value(tokens, text, out, src, at.pos, place, r, at.top)
         }
-        Form::Bin(s) => binary(tokens, text, out, f, numbers, offs, placed, names, at, s),
-        Form::Un(s) => unary(tokens, text, out, f, numbers, offs, placed, names, at, s),
-        Form::Through(s) => through(tokens, text, out, f, numbers, offs, placed, names, at, s),
+        Form::Bin(s) => binary(tokens, text, out, src, at, s),
+        Form::Un(s) => unary(tokens, text, out, src, at, s),
+        Form::Through(s) => through(tokens, text, out, src, at, s),
     }
 }
 
 // The operands s of expression n, and the operator between them.
 #[cycle(rendering)]
-fn binary(
-    tokens: &mut [u64],
-    text: &mut [u8],
-    out: Out,
-    f: &[u8],
-    numbers: &[u32],
-    offs: &[u64],
-    placed: &[u32],
-    names: &[u32],
-    at: Spot,
-    s: Bin,
-) -> Out
-    requires told { Told f.now at.t at.places numbers.now offs.now placed.now names.now }
-    requires n_bound { at.n ≤ size f.now expressions }
-    ensures { (E : Edition) → text_section E ≡ at.t → seen (room_of tokens.new text.new result)
-        ≡ seen (emit_all (room_of tokens.old text.old out) (form_tokens E f.now at.pos at.n at.top (BinForm s))) }
+fn binary(tokens: &mut [u64], text: &mut [u8], out: Out, src: &Source<'_>, at: Spot, s: Bin) -> Out
+    requires { at.n ≤ size src.now.f.now expressions }
+    ensures { (E : Edition) → text_section E ≡ src.now.t → seen (room_of tokens.new text.new result)
+        ≡ seen (emit_all (room_of tokens.old text.old out) (form_tokens E src.now.f.now at.pos at.n at.top (BinForm s))) }
 {
     let left = Spot {
         b: at.n,
@@ -144,30 +101,18 @@ fn binary(
     let right = Spot { n: s.right, ..left };
     let inner = !at.top;
     let out = put_if(tokens, text, out, PUNCT, b"(", inner);
-    let out = below(tokens, text, out, f, numbers, offs, placed, names, left);
-    let out = put_operator(tokens, text, out, f, at.t, s.op);
-    let out = below(tokens, text, out, f, numbers, offs, placed, names, right);
+    let out = below(tokens, text, out, src, left);
+    let out = put_operator(tokens, text, out, src.f, src.t, s.op);
+    let out = below(tokens, text, out, src, right);
     put_if(tokens, text, out, PUNCT, b")", inner)
 }
 
 // The operator, and the operand behind it.
 #[cycle(rendering)]
-fn unary(
-    tokens: &mut [u64],
-    text: &mut [u8],
-    out: Out,
-    f: &[u8],
-    numbers: &[u32],
-    offs: &[u64],
-    placed: &[u32],
-    names: &[u32],
-    at: Spot,
-    s: Un,
-) -> Out
-    requires told { Told f.now at.t at.places numbers.now offs.now placed.now names.now }
-    requires n_bound { at.n ≤ size f.now expressions }
-    ensures { (E : Edition) → text_section E ≡ at.t → seen (room_of tokens.new text.new result)
-        ≡ seen (emit_all (room_of tokens.old text.old out) (form_tokens E f.now at.pos at.n at.top (UnForm s))) }
+fn unary(tokens: &mut [u64], text: &mut [u8], out: Out, src: &Source<'_>, at: Spot, s: Un) -> Out
+    requires { at.n ≤ size src.now.f.now expressions }
+    ensures { (E : Edition) → text_section E ≡ src.now.t → seen (room_of tokens.new text.new result)
+        ≡ seen (emit_all (room_of tokens.old text.old out) (form_tokens E src.now.f.now at.pos at.n at.top (UnForm s))) }
 {
     let child = Spot {
         b: at.n,
@@ -175,8 +120,8 @@ fn unary(
         top: false,
         ..at
     };
-    let out = put_text(tokens, text, out, PUNCT, f, at.t, s.op);
-    below(tokens, text, out, f, numbers, offs, placed, names, child)
+    let out = put_text(tokens, text, out, PUNCT, src.f, src.t, s.op);
+    below(tokens, text, out, src, child)
 }
 
 // A load through an address.
@@ -185,18 +130,13 @@ fn through(
     tokens: &mut [u64],
     text: &mut [u8],
     out: Out,
-    f: &[u8],
-    numbers: &[u32],
-    offs: &[u64],
-    placed: &[u32],
-    names: &[u32],
+    src: &Source<'_>,
     at: Spot,
     s: Load,
 ) -> Out
-    requires told { Told f.now at.t at.places numbers.now offs.now placed.now names.now }
-    requires n_bound { at.n ≤ size f.now expressions }
-    ensures { (E : Edition) → text_section E ≡ at.t → seen (room_of tokens.new text.new result)
-        ≡ seen (emit_all (room_of tokens.old text.old out) (form_tokens E f.now at.pos at.n at.top (ThroughForm s))) }
+    requires { at.n ≤ size src.now.f.now expressions }
+    ensures { (E : Edition) → text_section E ≡ src.now.t → seen (room_of tokens.new text.new result)
+        ≡ seen (emit_all (room_of tokens.old text.old out) (form_tokens E src.now.f.now at.pos at.n at.top (ThroughForm s))) }
 {
     let child = Spot {
         b: at.n,
@@ -205,7 +145,7 @@ fn through(
         ..at
     };
     let out = put_cast(tokens, text, out, s.size);
-    let out = below(tokens, text, out, f, numbers, offs, placed, names, child);
+    let out = below(tokens, text, out, src, child);
     put(tokens, text, out, PUNCT, b")")
 }
 
@@ -215,43 +155,34 @@ pub fn value(
     tokens: &mut [u64],
     text: &mut [u8],
     out: Out,
-    f: &[u8],
-    t: u32,
-    places: Places,
-    numbers: &[u32],
-    offs: &[u64],
-    placed: &[u32],
-    names: &[u32],
+    src: &Source<'_>,
     pos: u32,
     place: usize,
     reg: u32,
     top: bool,
 ) -> Out
-    requires told { Told f.now t places numbers.now offs.now placed.now names.now }
-    requires named_at { NamedAt f.now (length numbers.now) place reg }
-    ensures { (E : Edition) → text_section E ≡ t → seen (room_of tokens.new text.new result)
-        ≡ seen (emit_all (room_of tokens.old text.old out) (used E f.now pos top (value_of (at (keyed f.now (length numbers.now)) place)))) }
+    requires { NamedAt src.now.f.now (length src.now.numbers.now) place reg }
+    ensures { (E : Edition) → text_section E ≡ src.now.t → seen (room_of tokens.new text.new result)
+        ≡ seen (emit_all (room_of tokens.old text.old out) (used E src.now.f.now pos top (value_of (at (keyed src.now.f.now (length src.now.numbers.now)) place)))) }
 {
     if out.full {
         return out;
     }
-    let v = get(numbers, place) as usize;
-    let s = get(offs, v);
+    let v = get(src.numbers, place) as usize;
+    let s = get(src.offs, v);
     if s != 0 {
         return put_address(tokens, text, out, s);
     }
-    let k = get(placed, v);
+    let k = get(src.placed, v);
     if is_open(k, pos) {
         let i = k - 1;
         let opened = Spot {
-            t,
-            places,
             pos: i,
-            b: size_of(f, EXPRESSIONS),
-            n: stmt_field(f, i, 2),
+            b: size_of(src.f, EXPRESSIONS),
+            n: stmt_field(src.f, i, 2),
             top,
         };
-        return below(tokens, text, out, f, numbers, offs, placed, names, opened);
+        return below(tokens, text, out, src, opened);
     }
-    put_code(tokens, text, out, bits_of(f), reg, get(names, v))
+    put_code(tokens, text, out, bits_of(src.f), reg, get(src.names, v))
 }

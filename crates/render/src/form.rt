@@ -1,16 +1,12 @@
 // What an expression is written as.
-ghost use Rattle.std.specs.Prelude.{◌≡◌, ◌&&◌, eqb, length};
+ghost use Rattle.std.specs.Prelude.{◌≡◌, ◌&&◌, eqb};
 ghost use Rattle.definition.specs.Codes.{t_const};
 ghost use Rattle.definition.specs.Edition.{Edition};
 ghost use Rattle.definition.specs.Contents.{text, expr_word, expr_long};
-ghost use Rattle.definition.specs.Read.{read};
-ghost use Rattle.definition.specs.Offsets.{look, offsets};
 ghost use Rattle.text.specs.Supplied.{is_global};
-ghost use Rattle.values.specs.Tables.{table};
-ghost use Rattle.sums.specs.Ground.{Ground};
 ghost use Rattle.render.specs.Forms.{offset_form, load_form, form_of};
 
-use places::Places;
+use crate::source::Source;
 use records::contents::{expr_long, expr_word};
 use records::owners::CONST;
 use ssa::node::{Bin, Load, Node, Un, node_at};
@@ -64,48 +60,36 @@ fn names_global(f: &[u8], n: u32) -> bool
     expr_word(f, n, 0) == CONST && is_global(expr_long(f, n, 1))
 }
 
-fn load_form(
-    offs: &[u64],
-    f: &[u8],
-    t: u32,
-    numbers: &[u32],
-    places: Places,
-    n: u32,
-    s: Load,
-) -> Form
-    requires ground { Ground f.now numbers.now places }
-    requires offs_value { (E : Edition) → text E ≡ t → offs.now ≡ table f.now (length numbers.now) (look (offsets (read E f.now))) }
-    ensures { (E : Edition) → text E ≡ t → result ≡ load_form E f.now n s }
+fn load_form(src: &Source<'_>, n: u32, s: Load) -> Form
+    ensures { (E : Edition) → text E ≡ src.now.t → result ≡ load_form E src.now.f.now n s }
 {
     let a = s.child;
     if a >= n {
         return Form::Through(s);
     }
-    if names_global(f, a) {
+    if names_global(src.f, a) {
         return Form::Leaf(Leaf::Global(Global {
-            address: expr_long(f, a, 1),
+            address: expr_long(src.f, a, 1),
             size: s.size,
         }));
     }
-    let o = stack_off(offs, f, t, numbers, places, a);
+    let o = stack_off(src.offs, src.f, src.t, src.numbers, src.places, a);
     by_offset(o, Form::Through(s), Leaf::Slot(o))
 }
 
 // The form of expression n.
-pub fn form_of(offs: &[u64], f: &[u8], t: u32, numbers: &[u32], places: Places, n: u32) -> Form
-    requires ground { Ground f.now numbers.now places }
-    requires offs_value { (E : Edition) → text E ≡ t → offs.now ≡ table f.now (length numbers.now) (look (offsets (read E f.now))) }
-    ensures { (E : Edition) → text E ≡ t → result ≡ form_of E f.now n }
+pub fn form_of(src: &Source<'_>, n: u32) -> Form
+    ensures { (E : Edition) → text E ≡ src.now.t → result ≡ form_of E src.now.f.now n }
 {
-    match node_at(f, n) {
+    match node_at(src.f, n) {
         Node::Const(c) => Form::Leaf(Leaf::Number(c)),
         Node::Use(v) => Form::Use(v.reg),
         Node::Bin(s) => {
-            let o = stack_off(offs, f, t, numbers, places, n);
+            let o = stack_off(src.offs, src.f, src.t, src.numbers, src.places, n);
             by_offset(o, Form::Bin(s), Leaf::Address(o))
         }
         Node::Un(s) => Form::Un(s),
-        Node::Load(s) => load_form(offs, f, t, numbers, places, n, s),
+        Node::Load(s) => load_form(src, n, s),
         Node::Opaque(x) => Form::Leaf(Leaf::Opaque(x)),
     }
 }

@@ -7,3 +7,4 @@ mod form;
 pub mod kinds;
 mod leaves;
 mod operators;
+pub mod source;

@@ -8,7 +8,6 @@ use Rattle.definition.specs.Owners.{first_stmt}
 use Rattle.definition.specs.Read.{read}
 use Rattle.definition.specs.Offsets.{offsets}
 use Rattle.definition.specs.Blocks.{lower as lower_of}
-use Rattle.places.specs.Keys.{places_of}
 use Rattle.room.specs.Room.{sheet_of, write_all, seen_sheet}
 use Rattle.room.specs.Blank.{fresh}
 use Rattle.lower.specs.Given.{Stands}
@@ -16,7 +15,7 @@ use Rattle.lower.specs.Remains.{block_lines}
 use Rattle.lower.proofs.lower.Given as goal
 
 abbrev pub invariant-loop-b : goal.invariant-loop-b
-invariant-loop-b l = ((E : Edition) → text_of E ≡ l.t → seen_sheet (write_all (sheet_of l.initial.lines l.initial.tokens l.initial.text fresh) (lower_of (read E l.f) (offsets (read E l.f)))) ≡ seen_sheet (write_all (sheet_of l.lines l.tokens l.text l.w.out) (block_lines E l.f l.b))) × (Stands l.f (first_stmt l.f l.b) l.w) × (l.n ≡ size l.f blocks) × (l.places ≡ places_of l.f) × (length l.lines ≡ length l.initial.lines) × (length l.tokens ≡ length l.initial.tokens) × (length l.text ≡ length l.initial.text)
+invariant-loop-b l = ((E : Edition) → text_of E ≡ l.t → seen_sheet (write_all (sheet_of l.initial.lines l.initial.tokens l.initial.text fresh) (lower_of (read E l.f) (offsets (read E l.f)))) ≡ seen_sheet (write_all (sheet_of l.lines l.tokens l.text l.w.out) (block_lines E l.f l.b))) × (Stands l.f (first_stmt l.f l.b) l.w) × (l.n ≡ size l.f blocks) × (length l.lines ≡ length l.initial.lines) × (length l.tokens ≡ length l.initial.tokens) × (length l.text ≡ length l.initial.text)
 
 abbrev pub decreases-loop-b : goal.decreases-loop-b
 decreases-loop-b l = l.n - l.b

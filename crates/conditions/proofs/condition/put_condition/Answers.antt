@@ -6,7 +6,7 @@ pub returns-in_default : goal.returns-in_default
 returns-in_default c = λ E e. by_nothing _ _ _ _ _ _ c.offset_of.ensures E e _ _ c.in_default.is c.put_flags.ensures
 
 pub put_compared-requires : goal.put_compared-requires
-put_compared-requires c = record { told = c.requires.told; fits = pair_fits _ _ _ c.requires.fits_found c.in-Some.is }
+put_compared-requires c = pair_fits _ _ _ c.requires c.in-Some.is
 
 pub returns : goal.returns
 returns c = λ E e. by_pair _ _ _ _ _ _ c.offset_of.ensures E e _ _ _ c.in-Some.is (c.put_compared.ensures E e)

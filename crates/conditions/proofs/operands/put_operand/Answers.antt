@@ -3,7 +3,7 @@ use Rattle.conditions.proofs.Pairing.{operand_assigns, operand_node, operand_ass
 use Rattle.conditions.proofs.operands.put_operand.Goals as goal
 
 pub put_assigned-requires : goal.put_assigned-requires
-put_assigned-requires c = record { told = c.requires.told; assigns = operand_assigns _ _ _ c.requires.fit c.in-Assigned.is }
+put_assigned-requires c = operand_assigns _ _ _ c.requires c.in-Assigned.is
 
 pub returns-in-Node : goal.returns-in-Node
 returns-in-Node c = λ E e. operand_node _ _ E _ _ _ _ c.in-Node.is c.size_of-pos.ensures (c.expr.ensures E e)

@@ -6,7 +6,7 @@ pub returns-then-is_dead : goal.returns-then-is_dead
 returns-then-is_dead c = λ E pend set s regs. branch_dead E _ _ _ _ _ c.requires.branch_at set regs pend _ _ c.is_dead.ensures _ c.if-is_dead.true
 
 pub conditional-requires : goal.conditional-requires
-conditional-requires c = record { told = c.requires.told; block_bound = c.requires.branch_at.inside; set = c.requires.set }
+conditional-requires c = record { block_bound = c.requires.branch_at.inside; set = c.requires.set }
 
 pub returns-then-stmt_field-eq1 : goal.returns-then-stmt_field-eq1
 returns-then-stmt_field-eq1 c = λ E pend set s regs. branch_if_lem E _ _ _ _ _ c.requires.branch_at set regs pend _ _ c.is_dead.ensures _ _ c.if-is_dead.false _ c.stmt_field.ensures c.if-stmt_field-eq1.true (c.conditional.ensures E s)

@@ -1,6 +1,5 @@
 use native.Mathlib.Omega.{arith}
 use mathlib.Core.Path.{refl, ◌∙◌}
-use Prim.Native.Nat.{◌-◌}
 use Rattle.definition.specs.Edition.{edition1}
 use Rattle.lower.proofs.Standing.{stands_item, stands_end, in_block, index_small}
 use Rattle.lower.proofs.Remaining.{count_first, count_next, stmts_turn, stmts_end}
@@ -10,18 +9,18 @@ pub loop-i-init : goal.loop-i-init
 loop-i-init c = ((λ E s. refl), (λ E. count_first E _ _), stands_item _ _ _ c.requires.block_bound.1, omega arith, omega arith, omega (arith, c.requires.block_bound.1.here, c.requires.block_bound.2), c.requires.block_bound.1.here, refl, refl, refl)
 
 pub stmt-out-requires : goal.stmt-out-requires
-stmt-out-requires c = let inv = c.loop-i.invariant in record { known = c.requires.known; stmt_at = record { inside = c.requires.block_bound.0; before_end = c.loop-i-test.true; ends = c.requires.block_bound.2; first = inv.2 }; set = c.requires.set }
+stmt-out-requires c = let inv = c.loop-i.invariant in record { stmt_at = record { inside = c.requires.block_bound.0; before_end = c.loop-i-test.true; ends = c.requires.block_bound.2; first = inv.2 }; set = c.requires.set }
 
 pub next_item-item-requires : goal.next_item-item-requires
 next_item-item-requires c =
     let pre = c.requires in
-    (pre.known.told.ground.counts, in_block _ pre.known.told.ground.counts _ _ _ pre.block_bound.0 pre.block_bound.2 c.loop-i-test.true, c.loop-i.invariant.2)
+    (c.args.given.now.known.told.ground.counts, in_block _ c.args.given.now.known.told.ground.counts _ _ _ pre.block_bound.0 pre.block_bound.2 c.loop-i-test.true, c.loop-i.invariant.2)
 
 pub from_behind-from-requires : goal.from_behind-from-requires
-from_behind-from-requires c = index_small _ c.type_inv.f _ (in_block _ c.requires.known.told.ground.counts _ _ _ c.requires.block_bound.0 c.requires.block_bound.2 c.loop-i-test.true)
+from_behind-from-requires c = index_small _ c.args.given.now.src.bytes _ (in_block _ c.args.given.now.known.told.ground.counts _ _ _ c.requires.block_bound.0 c.requires.block_bound.2 c.loop-i-test.true)
 
 pub overflow_add-i : goal.overflow_add-i
-overflow_add-i c = omega (arith, index_small c.args.f.now c.type_inv.f c.loop-i.i (in_block c.args.f.now c.requires.known.told.ground.counts c.args.block c.args.end c.loop-i.i c.requires.block_bound.0 c.requires.block_bound.2 c.loop-i-test.true))
+overflow_add-i c = omega (arith, index_small c.args.given.now.src.f.now c.args.given.now.src.bytes c.loop-i.i (in_block c.args.given.now.src.f.now c.args.given.now.known.told.ground.counts c.args.block c.args.end c.loop-i.i c.requires.block_bound.0 c.requires.block_bound.2 c.loop-i-test.true))
 
 pub loop-i-smaller : goal.loop-i-smaller
 loop-i-smaller c = omega (arith, c.loop-i-test.true)

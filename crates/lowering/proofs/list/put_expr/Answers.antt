@@ -4,4 +4,4 @@ use Rattle.lowering.proofs.Gen.{rendered_is}
 use Rattle.lowering.proofs.list.put_expr.Goals as goal
 
 pub returns : goal.returns
-returns c = λ E s. pieces_are _ _ _ _ (c.expr.ensures E s) (rendered_is E _ c.requires.ground.counts _ _ c.size_of-pos.ensures)
+returns c = λ E s. pieces_are _ _ _ _ (c.expr.ensures E s) (rendered_is E _ c.args.src.now.told.ground.counts _ _ c.size_of-pos.ensures)

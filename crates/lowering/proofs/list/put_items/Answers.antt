@@ -7,10 +7,7 @@ pub loop-k-init : goal.loop-k-init
 loop-k-init c = ((λ E s. items_start E _ _ _ _), refl, refl)
 
 pub overflow_add-first : goal.overflow_add-first
-overflow_add-first c = omega (arith, c.requires.n_bound, c.loop-k-test.true)
-
-pub put_arg-out-requires : goal.put_arg-out-requires
-put_arg-out-requires c = c.requires.told
+overflow_add-first c = omega (arith, c.requires, c.loop-k-test.true)
 
 pub loop-k-preserved : goal.loop-k-preserved
 loop-k-preserved c = let inv = c.loop-k.invariant in ((λ E s. inv.0 E s ∙ items_turn E _ _ _ _ _ _ _ c.loop-k-test.true c.item_word-x.ensures (c.put_arg-out.ensures E s)), c.put_arg-out.auto.tokens ∙ inv.1, c.put_arg-out.auto.text ∙ inv.2)

@@ -13,7 +13,7 @@ returns-then-n-size_of c = λ E s.
     ]
 
 pub returns-then-a-n : goal.returns-then-a-n
-returns-then-a-n c = λ E s. load_low E _ _ _ c.size_of.ensures c.if-n-size_of.false _ c.expr_word.ensures c.if-expr_word-ne-LOAD.false _ c.expr_word-a.ensures _ c.if-a-n.true (c.stack_off.ensures E _ s (c.requires.offs_value E s))
+returns-then-a-n c = λ E s. load_low E _ _ _ c.size_of.ensures c.if-n-size_of.false _ c.expr_word.ensures c.if-expr_word-ne-LOAD.false _ c.expr_word-a.ensures _ c.if-a-n.true (c.stack_off.ensures E _ s (c.args.src.now.told.known E s))
 
 pub returns-else-a-n : goal.returns-else-a-n
 returns-else-a-n c = λ E s. le-ltb _ _ c.if-a-n.false ∙ (load_high E _ _ _ c.size_of.ensures c.if-n-size_of.false _ c.expr_word.ensures c.if-expr_word-ne-LOAD.false _ c.expr_word-a.ensures c.if-a-n.false)

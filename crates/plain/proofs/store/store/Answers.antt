@@ -7,7 +7,7 @@ pub returns-then-is_dead : goal.returns-then-is_dead
 returns-then-is_dead c = λ E H pend set s. left_out _ _ _ _ (store_lines E _ H pend set _ _ c.requires.i_value) c.is_dead.ensures _ c.if-is_dead.true
 
 pub returns-then-is_silent : goal.returns-then-is_silent
-returns-then-is_silent c = λ E H pend set s. left_out _ _ _ _ (not_out _ _ _ _ (store_lines E _ H pend set _ _ c.requires.i_value) c.is_dead.ensures c.if-is_dead.false) (c.is_silent.ensures E _ s (c.requires.told.known E s)) _ c.if-is_silent.true
+returns-then-is_silent c = λ E H pend set s. left_out _ _ _ _ (not_out _ _ _ _ (store_lines E _ H pend set _ _ c.requires.i_value) c.is_dead.ensures c.if-is_dead.false) (c.is_silent.ensures E _ s (c.args.src.now.told.known E s)) _ c.if-is_silent.true
 
 pub returns : goal.returns
-returns c = λ E H pend set s. line_put _ _ _ _ _ _ _ _ _ _ (not_out _ _ _ _ (not_out _ _ _ _ (store_lines E _ H pend set _ _ c.requires.i_value) c.is_dead.ensures c.if-is_dead.false) (c.is_silent.ensures E _ s (c.requires.told.known E s)) c.if-is_silent.false) (c.put_store-out.ensures E s) c.end_stmt.ensures
+returns c = λ E H pend set s. line_put _ _ _ _ _ _ _ _ _ _ (not_out _ _ _ _ (not_out _ _ _ _ (store_lines E _ H pend set _ _ c.requires.i_value) c.is_dead.ensures c.if-is_dead.false) (c.is_silent.ensures E _ s (c.args.src.now.told.known E s)) c.if-is_silent.false) (c.put_store-out.ensures E s) c.end_stmt.ensures

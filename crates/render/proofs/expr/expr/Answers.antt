@@ -4,7 +4,7 @@ use Rattle.render.proofs.Valued.{all_within}
 use Rattle.render.proofs.expr.expr.Goals as goal
 
 pub below-requires : goal.below-requires
-below-requires c = record { told = c.requires; b_bound = all_within _ _ c.size_of-b.ensures }
+below-requires c = all_within _ _ c.size_of-b.ensures
 
 pub returns : goal.returns
 returns c = expr_is _ _ _ _ _ _ _ _ c.size_of-b.ensures c.below.ensures

@@ -9,7 +9,7 @@ pub returns-in-Use : goal.returns-in-Use
 returns-in-Use c = form_use _ _ _ _ c.node_at.ensures _ c.in-Use.is
 
 pub returns-in-Bin : goal.returns-in-Bin
-returns-in-Bin c = form_two _ _ _ _ c.node_at.ensures _ _ _ _ _ c.in-Bin.is c.stack_off-o.ensures c.requires.offs_value c.by_offset.ensures
+returns-in-Bin c = form_two _ _ _ _ c.node_at.ensures _ _ _ _ _ c.in-Bin.is c.stack_off-o.ensures c.args.src.now.told.known c.by_offset.ensures
 
 pub returns-in-Un : goal.returns-in-Un
 returns-in-Un c = form_un _ _ _ _ c.node_at.ensures _ c.in-Un.is

@@ -9,4 +9,4 @@ pub returns-then-names_global : goal.returns-then-names_global
 returns-then-names_global c = load_global _ _ _ _ c.if-a-n.false _ c.names_global.ensures _ c.if-names_global.true c.expr_long.ensures
 
 pub returns : goal.returns
-returns c = load_slot _ _ _ _ c.if-a-n.false _ c.names_global.ensures _ _ _ _ c.if-names_global.false c.stack_off-o.ensures c.requires.offs_value c.by_offset.ensures
+returns c = load_slot _ _ _ _ c.if-a-n.false _ c.names_global.ensures _ _ _ _ c.if-names_global.false c.stack_off-o.ensures c.args.src.now.told.known c.by_offset.ensures
