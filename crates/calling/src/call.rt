@@ -22,39 +22,66 @@ use render::source::Source;
 use room::out::Out;
 
 // Its tokens.
-fn put_call(tokens: &mut [u64], text: &mut [u8], out: Out, src: &Source<'_>, live: &[u32], phi: &[u32], i: u32, item: u32, from: u32, count: u32) -> Out
-    requires live_reads { LiveReads src.now.f.now (length src.now.numbers.now) live.now }
-    requires phi_reads { PhiReads src.now.f.now (length src.now.numbers.now) phi.now }
-    requires call_at { CallAt src.now.f.now i item }
-    ensures { (E : Edition) → text_of E ≡ src.now.t → seen (room_of tokens.new text.new result)
-        ≡ seen (emit_all (room_of tokens.old text.old out) (call_of E src.now.f.now i item from count)) }
+fn put_call(
+    tokens: &mut [u64],
+    text: &mut [u8],
+    out: Out,
+    src: &Source<'_>,
+    live: &[u32],
+    phi: &[u32],
+    i: u32,
+    item: u32,
+    from: u32,
+    count: u32,
+) -> Out
+    requires live_reads { LiveReads src.now.of.f.now (length src.now.of.numbers.now) live.now }
+    requires phi_reads { PhiReads src.now.of.f.now (length src.now.of.numbers.now) phi.now }
+    requires call_at { CallAt src.now.of.f.now i item }
+    ensures { (E : Edition) → text_of E ≡ src.now.of.t → seen (room_of tokens.new text.new result)
+        ≡ seen (emit_all (room_of tokens.old text.old out) (call_of E src.now.of.f.now i item from count)) }
 {
-    let out = put_result(tokens, text, out, src.f, src.places, src.numbers, src.names, live, phi, i);
-    let out = put_target(
-        tokens, text, out, src, i, item,
+    let out = put_result(
+        tokens,
+        text,
+        out,
+        src.of.f,
+        src.of.places,
+        src.of.numbers,
+        src.names,
+        live,
+        phi,
+        i,
     );
+    let out = put_target(tokens, text, out, src, i, item);
     let out = put(tokens, text, out, PUNCT, b"(");
-    let out = put_args(
-        tokens, text, out, src, i, item, from, count,
-    );
+    let out = put_args(tokens, text, out, src, i, item, from, count);
     put(tokens, text, out, PUNCT, b");")
 }
 
 // Statement i, a call whose list items begin at `item`, with the pushes from statement `from` on and `count` argument registers set.
-pub fn call(lines: &mut [u64], tokens: &mut [u64], text: &mut [u8], out: Out, src: &Source<'_>, live: &[u32], phi: &[u32], i: u32, item: u32, from: u32, count: u32) -> Out
-    requires live_reads { LiveReads src.now.f.now (length src.now.numbers.now) live.now }
-    requires phi_reads { PhiReads src.now.f.now (length src.now.numbers.now) phi.now }
-    requires call_at { CallAt src.now.f.now i item }
-    ensures { (E : Edition) (H : Here) (set : List ℕ) (end : ℕ) → text_of E ≡ src.now.t → count ≡ count_set set (read E src.now.f.now).args
+pub fn call(
+    lines: &mut [u64],
+    tokens: &mut [u64],
+    text: &mut [u8],
+    out: Out,
+    src: &Source<'_>,
+    live: &[u32],
+    phi: &[u32],
+    i: u32,
+    item: u32,
+    from: u32,
+    count: u32,
+) -> Out
+    requires live_reads { LiveReads src.now.of.f.now (length src.now.of.numbers.now) live.now }
+    requires phi_reads { PhiReads src.now.of.f.now (length src.now.of.numbers.now) phi.now }
+    requires call_at { CallAt src.now.of.f.now i item }
+    ensures { (E : Edition) (H : Here) (set : List ℕ) (end : ℕ) → text_of E ≡ src.now.of.t → count ≡ count_set set (read E src.now.of.f.now).args
         → seen_sheet (sheet_of lines.new tokens.new text.new result)
-        ≡ seen_sheet (write_all (sheet_of lines.old tokens.old text.old out) (lowered E src.now.f.now H (pending E src.now.f.now from i) set end i)) }
+        ≡ seen_sheet (write_all (sheet_of lines.old tokens.old text.old out) (lowered E src.now.of.f.now H (pending E src.now.of.f.now from i) set end i)) }
 {
-    if is_dead(src.f, i) {
+    if is_dead(src.of.f, i) {
         return out;
     }
-    let out = put_call(
-        tokens, text, out, src, live, phi, i, item, from,
-        count,
-    );
-    end_stmt(lines, out, src.f, i)
+    let out = put_call(tokens, text, out, src, live, phi, i, item, from, count);
+    end_stmt(lines, out, src.of.f, i)
 }

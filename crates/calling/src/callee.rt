@@ -50,15 +50,15 @@ fn put_indirect(
     item: u32,
     n: u32,
 ) -> Out
-    ensures { (E : Edition) → text_of E ≡ src.now.t → seen (room_of tokens.new text.new result)
-        ≡ seen (emit_all (room_of tokens.old text.old out) (indirect (lowering_of E src.now.f.now) (trees_of E src.now.f.now (listed src.now.f.now item n)))) }
+    ensures { (E : Edition) → text_of E ≡ src.now.of.t → seen (room_of tokens.new text.new result)
+        ≡ seen (emit_all (room_of tokens.old text.old out) (indirect (lowering_of E src.now.of.f.now) (trees_of E src.now.of.f.now (listed src.now.of.f.now item n)))) }
 {
     if n == 0 {
         return out;
     }
-    let x = item_word(src.f, item, 0);
-    if is_slot(src.f, x) {
-        return put_slot(tokens, text, out, src.f, src.t, x);
+    let x = item_word(src.of.f, item, 0);
+    if is_slot(src.of.f, x) {
+        return put_slot(tokens, text, out, src.of.f, src.of.t, x);
     }
     put_within(tokens, text, out, src, b"(*", x, b")")
 }
@@ -72,14 +72,14 @@ pub fn put_target(
     i: u32,
     item: u32,
 ) -> Out
-    ensures { (E : Edition) → text_of E ≡ src.now.t → seen (room_of tokens.new text.new result)
-        ≡ seen (emit_all (room_of tokens.old text.old out) (target_of E src.now.f.now i item)) }
+    ensures { (E : Edition) → text_of E ≡ src.now.of.t → seen (room_of tokens.new text.new result)
+        ≡ seen (emit_all (room_of tokens.old text.old out) (target_of E src.now.of.f.now i item)) }
 {
-    let start = stmt_field(src.f, i, 0);
-    let len = stmt_field(src.f, i, 1);
-    if is_indirect(src.f, src.t, start, len) {
-        let n = stmt_field(src.f, i, 2);
+    let start = stmt_field(src.of.f, i, 0);
+    let len = stmt_field(src.of.f, i, 1);
+    if is_indirect(src.of.f, src.of.t, start, len) {
+        let n = stmt_field(src.of.f, i, 2);
         return put_indirect(tokens, text, out, src, item, n);
     }
-    put_direct(tokens, text, out, src.f, src.t, start, len)
+    put_direct(tokens, text, out, src.of.f, src.of.t, start, len)
 }

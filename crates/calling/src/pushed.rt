@@ -23,31 +23,41 @@ fn is_push(f: &[u8], i: u32) -> bool
 }
 
 // The value that statement i pushes, if it does.
-fn put_push(tokens: &mut [u64], text: &mut [u8], out: Out, src: &Source<'_>, i: u32, more: bool) -> Out
-    ensures { (E : Edition) → text_of E ≡ src.now.t → seen (room_of tokens.new text.new result)
-        ≡ seen (emit_all (room_of tokens.old text.old out) (push_of E src.now.f.now more i)) }
+fn put_push(
+    tokens: &mut [u64],
+    text: &mut [u8],
+    out: Out,
+    src: &Source<'_>,
+    i: u32,
+    more: bool,
+) -> Out
+    ensures { (E : Edition) → text_of E ≡ src.now.of.t → seen (room_of tokens.new text.new result)
+        ≡ seen (emit_all (room_of tokens.old text.old out) (push_of E src.now.of.f.now more i)) }
 {
-    if is_push(src.f, i) {
-        let x = stmt_field(src.f, i, 2);
-        return put_arg(
-            tokens, text, out, src, x, more,
-        );
+    if is_push(src.of.f, i) {
+        let x = stmt_field(src.of.f, i, 2);
+        return put_arg(tokens, text, out, src, x, more);
     }
     out
 }
 
 // The values pushed from statement `from` on and before statement i, the last first.
-pub fn put_pushed(tokens: &mut [u64], text: &mut [u8], out: Out, src: &Source<'_>, from: u32, i: u32) -> Out
-    ensures { (E : Edition) → text_of E ≡ src.now.t → seen (room_of tokens.new text.new result)
-        ≡ seen (emit_all (room_of tokens.old text.old out) (comma_list (lowering_of E src.now.f.now) (trees_of E src.now.f.now (pushed_nodes src.now.f.now from i)))) }
+pub fn put_pushed(
+    tokens: &mut [u64],
+    text: &mut [u8],
+    out: Out,
+    src: &Source<'_>,
+    from: u32,
+    i: u32,
+) -> Out
+    ensures { (E : Edition) → text_of E ≡ src.now.of.t → seen (room_of tokens.new text.new result)
+        ≡ seen (emit_all (room_of tokens.old text.old out) (comma_list (lowering_of E src.now.of.f.now) (trees_of E src.now.of.f.now (pushed_nodes src.now.of.f.now from i)))) }
 {
     let mut out = out;
     let mut more = false;
     for j in (from..i).rev() {
-        out = put_push(
-            tokens, text, out, src, j, more,
-        );
-        more |= is_push(src.f, j);
+        out = put_push(tokens, text, out, src, j, more);
+        more |= is_push(src.of.f, j);
     }
     out
 }

@@ -16,31 +16,43 @@ use render::source::Source;
 use room::out::Out;
 
 // By the operands p and the code that n bytes of the file from `at` on spell.
-fn put_compared(tokens: &mut [u64], text: &mut [u8], out: Out, src: &Source<'_>, p: Pair, at: usize, n: usize) -> Out
-    requires { Fits src.now.f.now p }
-    ensures { (E : Edition) → text_of E ≡ src.now.t → seen (room_of tokens.new text.new result)
-        ≡ seen (emit_all (room_of tokens.old text.old out) (found_tokens E src.now.f.now (Some p) (part src.now.f.now at n))) }
+fn put_compared(
+    tokens: &mut [u64],
+    text: &mut [u8],
+    out: Out,
+    src: &Source<'_>,
+    p: Pair,
+    at: usize,
+    n: usize,
+) -> Out
+    requires { Fits src.now.of.f.now p }
+    ensures { (E : Edition) → text_of E ≡ src.now.of.t → seen (room_of tokens.new text.new result)
+        ≡ seen (emit_all (room_of tokens.old text.old out) (found_tokens E src.now.of.f.now (Some p) (part src.now.of.f.now at n))) }
 {
-    let Some(c) = shown(p.by, code_of(src.f, at, n)) else {
-        return put_flags(tokens, text, out, src.f, at, n);
+    let Some(c) = shown(p.by, code_of(src.of.f, at, n)) else {
+        return put_flags(tokens, text, out, src.of.f, at, n);
     };
-    put_shown(
-        tokens, text, out, src, p, c,
-    )
+    put_shown(tokens, text, out, src, p, c)
 }
 
 // By what set the flags of the block; the code is spelled by `len` bytes of section t from `start` on.
-pub fn put_condition(tokens: &mut [u64], text: &mut [u8], out: Out, src: &Source<'_>, setter: Option<Pair>, start: u32, len: u32) -> Out
-    requires { FitsFound src.now.f.now setter }
-    ensures { (E : Edition) → text_of E ≡ src.now.t → seen (room_of tokens.new text.new result)
-        ≡ seen (emit_all (room_of tokens.old text.old out) (found_tokens E src.now.f.now setter (text_at E src.now.f.now start len))) }
+pub fn put_condition(
+    tokens: &mut [u64],
+    text: &mut [u8],
+    out: Out,
+    src: &Source<'_>,
+    setter: Option<Pair>,
+    start: u32,
+    len: u32,
+) -> Out
+    requires { FitsFound src.now.of.f.now setter }
+    ensures { (E : Edition) → text_of E ≡ src.now.of.t → seen (room_of tokens.new text.new result)
+        ≡ seen (emit_all (room_of tokens.old text.old out) (found_tokens E src.now.of.f.now setter (text_at E src.now.of.f.now start len))) }
 {
-    let at = offset_of(src.f, src.t) as usize + start as usize;
+    let at = offset_of(src.of.f, src.of.t) as usize + start as usize;
     let n = len as usize;
     let Some(p) = setter else {
-        return put_flags(tokens, text, out, src.f, at, n);
+        return put_flags(tokens, text, out, src.of.f, at, n);
     };
-    put_compared(
-        tokens, text, out, src, p, at, n,
-    )
+    put_compared(tokens, text, out, src, p, at, n)
 }

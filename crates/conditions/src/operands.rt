@@ -53,13 +53,13 @@ pub fn operands(f: &[u8], t: u32, first: u32, count: u32) -> Option<Pair>
 
 // The value that statement i assigns.
 fn put_assigned(tokens: &mut [u64], text: &mut [u8], out: Out, src: &Source<'_>, i: u32) -> Out
-    requires { Assigns src.now.f.now i }
-    ensures { (E : Edition) → text_of E ≡ src.now.t → seen (room_of tokens.new text.new result)
-        ≡ seen (emit_all (room_of tokens.old text.old out) (assigned_tokens E src.now.f.now i)) }
+    requires { Assigns src.now.of.f.now i }
+    ensures { (E : Edition) → text_of E ≡ src.now.of.t → seen (room_of tokens.new text.new result)
+        ≡ seen (emit_all (room_of tokens.old text.old out) (assigned_tokens E src.now.of.f.now i)) }
 {
-    let pos = size_of(src.f, STATEMENTS);
-    let place = src.places.stmts + i as usize;
-    let reg = stmt_field(src.f, i, 0);
+    let pos = size_of(src.of.f, STATEMENTS);
+    let place = src.of.places.stmts + i as usize;
+    let reg = stmt_field(src.of.f, i, 0);
     value(tokens, text, out, src, pos, place, reg, false)
 }
 
@@ -71,11 +71,11 @@ pub fn put_operand(
     src: &Source<'_>,
     x: Operand,
 ) -> Out
-    requires { Fit src.now.f.now x }
-    ensures { (E : Edition) → text_of E ≡ src.now.t → seen (room_of tokens.new text.new result)
-        ≡ seen (emit_all (room_of tokens.old text.old out) (operand_tokens E src.now.f.now x)) }
+    requires { Fit src.now.of.f.now x }
+    ensures { (E : Edition) → text_of E ≡ src.now.of.t → seen (room_of tokens.new text.new result)
+        ≡ seen (emit_all (room_of tokens.old text.old out) (operand_tokens E src.now.of.f.now x)) }
 {
-    let pos = size_of(src.f, STATEMENTS);
+    let pos = size_of(src.of.f, STATEMENTS);
     match x {
         Operand::Node(n) => { expr(tokens, text, out, src, pos, n, false) }
         Operand::Assigned(i) => { put_assigned(tokens, text, out, src, i) }

@@ -16,54 +16,52 @@ use render::source::Source;
 use room::out::Out;
 
 // `(LEFT op RIGHT)`
-fn put_between(tokens: &mut [u64], text: &mut [u8], out: Out, src: &Source<'_>, p: Pair, op: &[u8]) -> Out
-    requires { Fits src.now.f.now p }
-    ensures { (E : Edition) → text_of E ≡ src.now.t → seen (room_of tokens.new text.new result)
+fn put_between(
+    tokens: &mut [u64],
+    text: &mut [u8],
+    out: Out,
+    src: &Source<'_>,
+    p: Pair,
+    op: &[u8],
+) -> Out
+    requires { Fits src.now.of.f.now p }
+    ensures { (E : Edition) → text_of E ≡ src.now.of.t → seen (room_of tokens.new text.new result)
         ≡ seen (emit_all (room_of tokens.old text.old out)
-        (between (operand_tokens E src.now.f.now p.left) (operand_tokens E src.now.f.now p.right) op.now)) }
+        (between (operand_tokens E src.now.of.f.now p.left) (operand_tokens E src.now.of.f.now p.right) op.now)) }
 {
     let left = p.left;
     let right = p.right;
     let out = put(tokens, text, out, PUNCT, b"(");
-    let out = put_operand(
-        tokens, text, out, src, left,
-    );
+    let out = put_operand(tokens, text, out, src, left);
     let out = put(tokens, text, out, PUNCT, op);
-    let out = put_operand(
-        tokens, text, out, src, right,
-    );
+    let out = put_operand(tokens, text, out, src, right);
     put(tokens, text, out, PUNCT, b")")
 }
 
-fn put_side(tokens: &mut [u64], text: &mut [u8], out: Out, src: &Source<'_>, p: Pair, side: Side) -> Out
-    requires { Fits src.now.f.now p }
-    ensures { (E : Edition) → text_of E ≡ src.now.t → seen (room_of tokens.new text.new result)
+fn put_side(
+    tokens: &mut [u64],
+    text: &mut [u8],
+    out: Out,
+    src: &Source<'_>,
+    p: Pair,
+    side: Side,
+) -> Out
+    requires { Fits src.now.of.f.now p }
+    ensures { (E : Edition) → text_of E ≡ src.now.of.t → seen (room_of tokens.new text.new result)
         ≡ seen (emit_all (room_of tokens.old text.old out)
-        (side_tokens (operand_tokens E src.now.f.now p.left) (operand_tokens E src.now.f.now p.right) (view_side side))) }
+        (side_tokens (operand_tokens E src.now.of.f.now p.left) (operand_tokens E src.now.of.f.now p.right) (view_side side))) }
 {
     match side {
         Side::Left => {
             let x = p.left;
-            put_operand(
-                tokens, text, out, src, x,
-            )
+            put_operand(tokens, text, out, src, x)
         }
         Side::Right => {
             let x = p.right;
-            put_operand(
-                tokens, text, out, src, x,
-            )
+            put_operand(tokens, text, out, src, x)
         }
-        Side::Difference => {
-            put_between(
-                tokens, text, out, src, p, b" - ",
-            )
-        }
-        Side::Both => {
-            put_between(
-                tokens, text, out, src, p, b" & ",
-            )
-        }
+        Side::Difference => { put_between(tokens, text, out, src, p, b" - ") }
+        Side::Both => { put_between(tokens, text, out, src, p, b" & ") }
         Side::Nought => put(tokens, text, out, PUNCT, b"0"),
     }
 }
@@ -83,21 +81,24 @@ fn put_sign(tokens: &mut [u64], text: &mut [u8], out: Out, sign: Sign) -> Out
 }
 
 // The comparison c of the operands p.
-pub fn put_shown(tokens: &mut [u64], text: &mut [u8], out: Out, src: &Source<'_>, p: Pair, c: Shown) -> Out
-    requires { Fits src.now.f.now p }
-    ensures { (E : Edition) → text_of E ≡ src.now.t → seen (room_of tokens.new text.new result)
+pub fn put_shown(
+    tokens: &mut [u64],
+    text: &mut [u8],
+    out: Out,
+    src: &Source<'_>,
+    p: Pair,
+    c: Shown,
+) -> Out
+    requires { Fits src.now.of.f.now p }
+    ensures { (E : Edition) → text_of E ≡ src.now.of.t → seen (room_of tokens.new text.new result)
         ≡ seen (emit_all (room_of tokens.old text.old out)
-        (shown_tokens (operand_tokens E src.now.f.now p.left) (operand_tokens E src.now.f.now p.right) (view_shown c))) }
+        (shown_tokens (operand_tokens E src.now.of.f.now p.left) (operand_tokens E src.now.of.f.now p.right) (view_shown c))) }
 {
     let lhs = c.lhs;
     let sign = c.sign;
     let rhs = c.rhs;
     let out = put_if(tokens, text, out, KEYWORD, b"(unsigned)", c.unsigned);
-    let out = put_side(
-        tokens, text, out, src, p, lhs,
-    );
+    let out = put_side(tokens, text, out, src, p, lhs);
     let out = put_sign(tokens, text, out, sign);
-    put_side(
-        tokens, text, out, src, p, rhs,
-    )
+    put_side(tokens, text, out, src, p, rhs)
 }

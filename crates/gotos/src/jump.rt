@@ -10,12 +10,12 @@ ghost use Rattle.gotos.specs.Written.{uses_of, stmt_line, to_block, computed_tok
 
 use crate::goto::put_goto;
 use labels::is_next;
-use render::kinds::{KEYWORD, PUNCT};
 use lowering::line::end_stmt;
 use lowering::list::put_expr;
 use pieces::put::put;
 use records::contents::item_word;
 use records::owners::stmt_field;
+use render::kinds::{KEYWORD, PUNCT};
 use render::source::Source;
 use room::out::Out;
 
@@ -50,13 +50,13 @@ fn put_first(
     item: u32,
     n: u32,
 ) -> Out
-    ensures { (E : Edition) → text_of E ≡ src.now.t → seen (room_of tokens.new text.new result)
-        ≡ seen (emit_all (room_of tokens.old text.old out) (first_of (lowering_of E src.now.f.now) (uses_of E src.now.f.now item n))) }
+    ensures { (E : Edition) → text_of E ≡ src.now.of.t → seen (room_of tokens.new text.new result)
+        ≡ seen (emit_all (room_of tokens.old text.old out) (first_of (lowering_of E src.now.of.f.now) (uses_of E src.now.of.f.now item n))) }
 {
     if n == 0 {
         return out;
     }
-    let x = item_word(src.f, item, 0);
+    let x = item_word(src.of.f, item, 0);
     put_expr(tokens, text, out, src, x)
 }
 
@@ -69,8 +69,8 @@ fn put_computed(
     item: u32,
     n: u32,
 ) -> Out
-    ensures { (E : Edition) → text_of E ≡ src.now.t → seen (room_of tokens.new text.new result)
-        ≡ seen (emit_all (room_of tokens.old text.old out) (computed_tokens E src.now.f.now item n)) }
+    ensures { (E : Edition) → text_of E ≡ src.now.of.t → seen (room_of tokens.new text.new result)
+        ≡ seen (emit_all (room_of tokens.old text.old out) (computed_tokens E src.now.of.f.now item n)) }
 {
     let out = put(tokens, text, out, KEYWORD, b"goto");
     let out = put(tokens, text, out, PUNCT, b" *");
@@ -88,10 +88,10 @@ pub fn computed(
     i: u32,
     item: u32,
 ) -> Out
-    ensures { (E : Edition) → text_of E ≡ src.now.t → seen_sheet (sheet_of lines.new tokens.new text.new result)
-        ≡ seen_sheet (write_all (sheet_of lines.old tokens.old text.old out) (stmt_line src.now.f.now i (computed_tokens E src.now.f.now item (stmt_field src.now.f.now i 6)))) }
+    ensures { (E : Edition) → text_of E ≡ src.now.of.t → seen_sheet (sheet_of lines.new tokens.new text.new result)
+        ≡ seen_sheet (write_all (sheet_of lines.old tokens.old text.old out) (stmt_line src.now.of.f.now i (computed_tokens E src.now.of.f.now item (stmt_field src.now.of.f.now i 6)))) }
 {
-    let n = stmt_field(src.f, i, 6);
+    let n = stmt_field(src.of.f, i, 6);
     let out = put_computed(tokens, text, out, src, item, n);
-    end_stmt(lines, out, src.f, i)
+    end_stmt(lines, out, src.of.f, i)
 }

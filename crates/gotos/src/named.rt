@@ -6,9 +6,9 @@ ghost use Rattle.room.specs.Room.{room_of, emit_all, seen};
 ghost use Rattle.gotos.specs.Written.{uses_of, name_tokens, return_if, call_tokens};
 
 use calls::targets::put_target;
-use render::kinds::{KEYWORD, PUNCT, SYMBOL, TEXT};
 use lowering::list::put_items;
 use pieces::put::put;
+use render::kinds::{KEYWORD, PUNCT, SYMBOL, TEXT};
 use render::source::Source;
 use room::out::Out;
 
@@ -23,10 +23,10 @@ fn put_named(
     n: u32,
 ) -> Out
     requires { item + n < 4294967296 }
-    ensures { (E : Edition) → text_of E ≡ src.now.t → seen (room_of tokens.new text.new result)
-        ≡ seen (emit_all (room_of tokens.old text.old out) (name_tokens E src.now.f.now a (uses_of E src.now.f.now item n))) }
+    ensures { (E : Edition) → text_of E ≡ src.now.of.t → seen (room_of tokens.new text.new result)
+        ≡ seen (emit_all (room_of tokens.old text.old out) (name_tokens E src.now.of.f.now a (uses_of E src.now.of.f.now item n))) }
 {
-    let out = put_target(tokens, text, out, SYMBOL, src.f, src.t, a);
+    let out = put_target(tokens, text, out, SYMBOL, src.of.f, src.of.t, a);
     let out = put(tokens, text, out, PUNCT, b"(");
     let out = put_items(tokens, text, out, src, item, n);
     put(tokens, text, out, PUNCT, b")")
@@ -56,8 +56,8 @@ pub fn put_call(
     returns: bool,
 ) -> Out
     requires { item + n < 4294967296 }
-    ensures { (E : Edition) → text_of E ≡ src.now.t → seen (room_of tokens.new text.new result)
-        ≡ seen (emit_all (room_of tokens.old text.old out) (call_tokens E src.now.f.now a returns (uses_of E src.now.f.now item n))) }
+    ensures { (E : Edition) → text_of E ≡ src.now.of.t → seen (room_of tokens.new text.new result)
+        ≡ seen (emit_all (room_of tokens.old text.old out) (call_tokens E src.now.of.f.now a returns (uses_of E src.now.of.f.now item n))) }
 {
     let out = put_return_if(tokens, text, out, returns);
     let out = put_named(tokens, text, out, src, a, item, n);

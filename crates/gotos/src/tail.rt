@@ -8,9 +8,9 @@ ghost use Rattle.gotos.specs.Written.{uses_of, return_line, tail_of, leave_of};
 use crate::goto::name_line;
 use crate::named::put_call;
 use calls::targets::leaves_raw;
-use render::kinds::{ADDRESS, KEYWORD, PUNCT};
 use lowering::line::end_stmt;
 use pieces::put::put;
+use render::kinds::{ADDRESS, KEYWORD, PUNCT};
 use render::source::Source;
 use room::out::Out;
 use words::word_at;
@@ -49,13 +49,13 @@ fn tail_call(
     n: u32,
 ) -> Out
     requires { item + n < 4294967296 }
-    ensures { (E : Edition) → text_of E ≡ src.now.t → seen_sheet (sheet_of lines.new tokens.new text.new result)
-        ≡ seen_sheet (write_all (sheet_of lines.old tokens.old text.old out) (tail_of E src.now.f.now i a (uses_of E src.now.f.now item n))) }
+    ensures { (E : Edition) → text_of E ≡ src.now.of.t → seen_sheet (sheet_of lines.new tokens.new text.new result)
+        ≡ seen_sheet (write_all (sheet_of lines.old tokens.old text.old out) (tail_of E src.now.of.f.now i a (uses_of E src.now.of.f.now item n))) }
 {
-    let returns = word_at(src.f, 8) == 1;
+    let returns = word_at(src.of.f, 8) == 1;
     let out = put_call(tokens, text, out, src, a, item, n, returns);
-    let out = end_stmt(lines, out, src.f, i);
-    end_call(lines, tokens, text, out, src.f, i, returns)
+    let out = end_stmt(lines, out, src.of.f, i);
+    end_call(lines, tokens, text, out, src.of.f, i, returns)
 }
 
 // To a, which is no block.
@@ -71,11 +71,11 @@ pub fn leave(
     n: u32,
 ) -> Out
     requires { item + n < 4294967296 }
-    ensures { (E : Edition) → text_of E ≡ src.now.t → seen_sheet (sheet_of lines.new tokens.new text.new result)
-        ≡ seen_sheet (write_all (sheet_of lines.old tokens.old text.old out) (leave_of E src.now.f.now i a (uses_of E src.now.f.now item n))) }
+    ensures { (E : Edition) → text_of E ≡ src.now.of.t → seen_sheet (sheet_of lines.new tokens.new text.new result)
+        ≡ seen_sheet (write_all (sheet_of lines.old tokens.old text.old out) (leave_of E src.now.of.f.now i a (uses_of E src.now.of.f.now item n))) }
 {
-    if leaves_raw(src.f, src.t, a) {
-        return name_line(lines, tokens, text, out, ADDRESS, src.f, src.t, i, a);
+    if leaves_raw(src.of.f, src.of.t, a) {
+        return name_line(lines, tokens, text, out, ADDRESS, src.of.f, src.of.t, i, a);
     }
     tail_call(lines, tokens, text, out, src, i, a, item, n)
 }

@@ -55,13 +55,13 @@ fn jump_to(
     item: u32,
     n: u32,
 ) -> Out
-    requires block_bound { block < size src.now.f.now blocks }
+    requires block_bound { block < size src.now.of.f.now blocks }
     requires n_bound { item + n < 4294967296 }
-    ensures { (E : Edition) → text_of E ≡ src.now.t → seen_sheet (sheet_of lines.new tokens.new text.new result)
-        ≡ seen_sheet (write_all (sheet_of lines.old tokens.old text.old out) (jump_of E src.now.f.now block i a (uses_of E src.now.f.now item n))) }
+    ensures { (E : Edition) → text_of E ≡ src.now.of.t → seen_sheet (sheet_of lines.new tokens.new text.new result)
+        ≡ seen_sheet (write_all (sheet_of lines.old tokens.old text.old out) (jump_of E src.now.of.f.now block i a (uses_of E src.now.of.f.now item n))) }
 {
-    if is_block(src.f, a) {
-        return to_block(lines, tokens, text, out, src.f, block, i, a);
+    if is_block(src.of.f, a) {
+        return to_block(lines, tokens, text, out, src.of.f, block, i, a);
     }
     leave(lines, tokens, text, out, src, i, a, item, n)
 }
@@ -78,13 +78,13 @@ fn plain_branch(
     item: u32,
     count: u32,
 ) -> Out
-    requires { BranchAt src.now.f.now block i item }
-    ensures { (E : Edition) → text_of E ≡ src.now.t → seen_sheet (sheet_of lines.new tokens.new text.new result)
-        ≡ seen_sheet (write_all (sheet_of lines.old tokens.old text.old out) (plain_of E src.now.f.now block i item count)) }
+    requires { BranchAt src.now.of.f.now block i item }
+    ensures { (E : Edition) → text_of E ≡ src.now.of.t → seen_sheet (sheet_of lines.new tokens.new text.new result)
+        ≡ seen_sheet (write_all (sheet_of lines.old tokens.old text.old out) (plain_of E src.now.of.f.now block i item count)) }
 {
-    let to = goal(src.f, block, i);
+    let to = goal(src.of.f, block, i);
     if to.there {
-        let n = least_of(count, stmt_field(src.f, i, 6));
+        let n = least_of(count, stmt_field(src.of.f, i, 6));
         return jump_to(lines, tokens, text, out, src, block, i, to.address, item, n);
     }
     computed(lines, tokens, text, out, src, i, item)
@@ -103,16 +103,16 @@ pub fn branch(
     count: u32,
     setter: Found,
 ) -> Out
-    requires branch_at { BranchAt src.now.f.now block i item }
-    requires set { Set src.now.f.now src.now.t (first_stmt src.now.f.now block) (block_stmts src.now.f.now block) setter }
-    ensures { (E : Edition) (pend : List Stmt) (set : List ℕ) → text_of E ≡ src.now.t → count ≡ count_set set (read E src.now.f.now).args
+    requires branch_at { BranchAt src.now.of.f.now block i item }
+    requires set { Set src.now.of.f.now src.now.of.t (first_stmt src.now.of.f.now block) (block_stmts src.now.of.f.now block) setter }
+    ensures { (E : Edition) (pend : List Stmt) (set : List ℕ) → text_of E ≡ src.now.of.t → count ≡ count_set set (read E src.now.of.f.now).args
         → seen_sheet (sheet_of lines.new tokens.new text.new result)
-        ≡ seen_sheet (write_all (sheet_of lines.old tokens.old text.old out) (lowered E src.now.f.now (here_at E src.now.f.now block) pend set (first_stmt src.now.f.now block + block_stmts src.now.f.now block) i)) }
+        ≡ seen_sheet (write_all (sheet_of lines.old tokens.old text.old out) (lowered E src.now.of.f.now (here_at E src.now.of.f.now block) pend set (first_stmt src.now.of.f.now block + block_stmts src.now.of.f.now block) i)) }
 {
-    if is_dead(src.f, i) {
+    if is_dead(src.of.f, i) {
         return out;
     }
-    if stmt_field(src.f, i, 0) == 1 {
+    if stmt_field(src.of.f, i, 0) == 1 {
         return conditional(lines, tokens, text, out, src, block, i, setter);
     }
     plain_branch(lines, tokens, text, out, src, block, i, item, count)

@@ -11,11 +11,11 @@ use conditions::condition::put_condition;
 use conditions::operands::Found;
 use gotos::goto::{name_line, put_goto_name};
 use labels::is_next;
-use render::kinds::{KEYWORD, PUNCT, SYMBOL};
 use lowering::line::end_stmt;
 use pieces::put::put;
 use records::contents::stmt_long;
 use records::owners::stmt_field;
+use render::kinds::{KEYWORD, PUNCT, SYMBOL};
 use render::source::Source;
 use room::out::Out;
 use ssa::block::block_at;
@@ -44,12 +44,12 @@ fn put_tested(
     i: u32,
     setter: Found,
 ) -> Out
-    requires { Set src.now.f.now src.now.t (first_stmt src.now.f.now block) (block_stmts src.now.f.now block) setter }
-    ensures { (E : Edition) → text_of E ≡ src.now.t → seen (room_of tokens.new text.new result)
-        ≡ seen (emit_all (room_of tokens.old text.old out) (condition_of E src.now.f.now block i)) }
+    requires { Set src.now.of.f.now src.now.of.t (first_stmt src.now.of.f.now block) (block_stmts src.now.of.f.now block) setter }
+    ensures { (E : Edition) → text_of E ≡ src.now.of.t → seen (room_of tokens.new text.new result)
+        ≡ seen (emit_all (room_of tokens.old text.old out) (condition_of E src.now.of.f.now block i)) }
 {
-    let start = stmt_field(src.f, i, 1);
-    let len = stmt_field(src.f, i, 2);
+    let start = stmt_field(src.of.f, i, 1);
+    let len = stmt_field(src.of.f, i, 2);
     put_condition(tokens, text, out, src, setter, start, len)
 }
 
@@ -63,9 +63,9 @@ fn put_if(
     i: u32,
     setter: Found,
 ) -> Out
-    requires { Set src.now.f.now src.now.t (first_stmt src.now.f.now block) (block_stmts src.now.f.now block) setter }
-    ensures { (E : Edition) → text_of E ≡ src.now.t → seen (room_of tokens.new text.new result)
-        ≡ seen (emit_all (room_of tokens.old text.old out) (if_tokens E src.now.f.now block i)) }
+    requires { Set src.now.of.f.now src.now.of.t (first_stmt src.now.of.f.now block) (block_stmts src.now.of.f.now block) setter }
+    ensures { (E : Edition) → text_of E ≡ src.now.of.t → seen (room_of tokens.new text.new result)
+        ≡ seen (emit_all (room_of tokens.old text.old out) (if_tokens E src.now.of.f.now block i)) }
 {
     let out = put(tokens, text, out, KEYWORD, b"if");
     let out = put(tokens, text, out, PUNCT, b" (");
@@ -82,14 +82,14 @@ fn put_test(
     i: u32,
     setter: Found,
 ) -> Out
-    requires { Set src.now.f.now src.now.t (first_stmt src.now.f.now block) (block_stmts src.now.f.now block) setter }
-    ensures { (E : Edition) → text_of E ≡ src.now.t → seen (room_of tokens.new text.new result)
-        ≡ seen (emit_all (room_of tokens.old text.old out) (test_tokens E src.now.f.now block i)) }
+    requires { Set src.now.of.f.now src.now.of.t (first_stmt src.now.of.f.now block) (block_stmts src.now.of.f.now block) setter }
+    ensures { (E : Edition) → text_of E ≡ src.now.of.t → seen (room_of tokens.new text.new result)
+        ≡ seen (emit_all (room_of tokens.old text.old out) (test_tokens E src.now.of.f.now block i)) }
 {
-    let a = aim(src.f, block, i);
+    let a = aim(src.of.f, block, i);
     let out = put_if(tokens, text, out, src, block, i, setter);
     let out = put(tokens, text, out, PUNCT, b") ");
-    put_goto_name(tokens, text, out, SYMBOL, src.f, src.t, a)
+    put_goto_name(tokens, text, out, SYMBOL, src.of.f, src.of.t, a)
 }
 
 // The goto to where the block falls, unless the next block is meant.
@@ -129,12 +129,12 @@ pub fn conditional(
     i: u32,
     setter: Found,
 ) -> Out
-    requires block_bound { block < size src.now.f.now blocks }
-    requires set { Set src.now.f.now src.now.t (first_stmt src.now.f.now block) (block_stmts src.now.f.now block) setter }
-    ensures { (E : Edition) → text_of E ≡ src.now.t → seen_sheet (sheet_of lines.new tokens.new text.new result)
-        ≡ seen_sheet (write_all (sheet_of lines.old tokens.old text.old out) (if_lines E src.now.f.now block i)) }
+    requires block_bound { block < size src.now.of.f.now blocks }
+    requires set { Set src.now.of.f.now src.now.of.t (first_stmt src.now.of.f.now block) (block_stmts src.now.of.f.now block) setter }
+    ensures { (E : Edition) → text_of E ≡ src.now.of.t → seen_sheet (sheet_of lines.new tokens.new text.new result)
+        ≡ seen_sheet (write_all (sheet_of lines.old tokens.old text.old out) (if_lines E src.now.of.f.now block i)) }
 {
     let out = put_test(tokens, text, out, src, block, i, setter);
-    let out = end_stmt(lines, out, src.f, i);
-    fall_line(lines, tokens, text, out, src.f, src.t, block, i)
+    let out = end_stmt(lines, out, src.of.f, i);
+    fall_line(lines, tokens, text, out, src.of.f, src.of.t, block, i)
 }

@@ -40,11 +40,11 @@ fn stmts(
     end: u32,
     setter: Found,
 ) -> Walk
-    requires block_bound { (block < size given.now.src.f.now blocks) × (Stands given.now.src.f.now (first_stmt given.now.src.f.now block) w) × (end ≡ first_stmt given.now.src.f.now block + block_stmts given.now.src.f.now block) }
-    requires set { Set given.now.src.f.now given.now.src.t (first_stmt given.now.src.f.now block) (block_stmts given.now.src.f.now block) setter }
-    ensures { (Stands given.now.src.f.now end result) × ((E : Edition) → text_of E ≡ given.now.src.t
+    requires block_bound { (block < size given.now.src.of.f.now blocks) × (Stands given.now.src.of.f.now (first_stmt given.now.src.of.f.now block) w) × (end ≡ first_stmt given.now.src.of.f.now block + block_stmts given.now.src.of.f.now block) }
+    requires set { Set given.now.src.of.f.now given.now.src.of.t (first_stmt given.now.src.of.f.now block) (block_stmts given.now.src.of.f.now block) setter }
+    ensures { (Stands given.now.src.of.f.now end result) × ((E : Edition) → text_of E ≡ given.now.src.of.t
         → seen_sheet (sheet_of lines.new tokens.new text.new result.out)
-        ≡ seen_sheet (write_all (sheet_of lines.old tokens.old text.old w.out) (lower_stmts (lowering_of E given.now.src.f.now) (here_at E given.now.src.f.now block) [] [] (here_at E given.now.src.f.now block).block.stmts))) }
+        ≡ seen_sheet (write_all (sheet_of lines.old tokens.old text.old w.out) (lower_stmts (lowering_of E given.now.src.of.f.now) (here_at E given.now.src.of.f.now block) [] [] (here_at E given.now.src.of.f.now block).block.stmts))) }
 {
     let mut out = w.out;
     let mut item = w.item;
@@ -55,9 +55,9 @@ fn stmts(
         out = stmt(
             lines, tokens, text, out, given, block, i, end, item, from, count, setter,
         );
-        item = next_item(given.src.f, i, item);
-        from = from_behind(given.src.f, i, from);
-        count = set_behind(given.src.f, i, count);
+        item = next_item(given.src.of.f, i, item);
+        from = from_behind(given.src.of.f, i, from);
+        count = set_behind(given.src.of.f, i, count);
         i += 1;
     }
     Walk {
@@ -75,23 +75,31 @@ pub fn lower_block(
     given: &Given<'_>,
     block: u32,
 ) -> Walk
-    requires block_bound { (block < size given.now.src.f.now blocks) × (Stands given.now.src.f.now (first_stmt given.now.src.f.now block) w) }
-    ensures { (Stands given.now.src.f.now (first_stmt given.now.src.f.now (block + 1)) result) × ((E : Edition) → text_of E ≡ given.now.src.t
+    requires block_bound { (block < size given.now.src.of.f.now blocks) × (Stands given.now.src.of.f.now (first_stmt given.now.src.of.f.now block) w) }
+    ensures { (Stands given.now.src.of.f.now (first_stmt given.now.src.of.f.now (block + 1)) result) × ((E : Edition) → text_of E ≡ given.now.src.of.t
         → seen_sheet (sheet_of lines.new tokens.new text.new result.out)
-        ≡ seen_sheet (write_all (sheet_of lines.old tokens.old text.old w.out) (lower_block (lowering_of E given.now.src.f.now) (here_at E given.now.src.f.now block)))) }
+        ≡ seen_sheet (write_all (sheet_of lines.old tokens.old text.old w.out) (lower_block (lowering_of E given.now.src.of.f.now) (here_at E given.now.src.of.f.now block)))) }
 {
     let first = w.stmt;
-    let n = block_stmts(given.src.f, block);
-    let leaves = last_leaves(given.src.f, first, n);
-    let setter = operands(given.src.f, given.src.t, first, n);
-    let out = label(lines, tokens, text, w.out, given.src.f, given.labels, block);
+    let n = block_stmts(given.src.of.f, block);
+    let leaves = last_leaves(given.src.of.f, first, n);
+    let setter = operands(given.src.of.f, given.src.of.t, first, n);
+    let out = label(
+        lines,
+        tokens,
+        text,
+        w.out,
+        given.src.of.f,
+        given.labels,
+        block,
+    );
     let begun = Walk {
         out: out,
         stmt: first,
         item: w.item,
     };
     let v = stmts(lines, tokens, text, begun, given, block, first + n, setter);
-    let out = closing(lines, tokens, text, v.out, given.src.f, block, leaves);
+    let out = closing(lines, tokens, text, v.out, given.src.of.f, block, leaves);
     Walk {
         out: out,
         stmt: v.stmt,

@@ -13,6 +13,6 @@ pub struct Given<'a> {
     pub roots: &'a [u32],
     pub marks: &'a [u32],
     pub labels: &'a [u32],
-    pub ghost known: { Known src.f.now src.t src.places src.numbers.now src.offs.now src.placed.now src.names.now live.now phi.now roots.now marks.now },
-    pub ghost targets: { Labels src.f.now (length labels.now) labels.now },
+    pub ghost known: { Known src.of.f.now src.of.t src.of.places src.of.numbers.now src.offs.now src.placed.now src.names.now live.now phi.now roots.now marks.now },
+    pub ghost targets: { Labels src.of.f.now (length labels.now) labels.now },
 }

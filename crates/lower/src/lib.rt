@@ -21,6 +21,7 @@ use places::places_of;
 use records::contents::{BLOCKS, size_of};
 use render::source::Source;
 use room::out::Out;
+use sums::numbered::Numbered;
 
 // All blocks, from an empty sheet on.
 pub fn lower<'a>(
@@ -44,11 +45,14 @@ pub fn lower<'a>(
         → seen_sheet (sheet_of lines.new tokens.new text.new result)
         ≡ seen_sheet (write_all (sheet_of lines.old tokens.old text.old fresh) (lower_of (read E f.now) (offsets (read E f.now)))) }
 {
-    let src = Source {
+    let of = Numbered {
         f,
         t,
         places: places_of(f),
         numbers,
+    };
+    let src = Source {
+        of,
         offs,
         placed,
         names,

@@ -37,13 +37,13 @@ pub fn stmt(
     count: u32,
     setter: Found,
 ) -> Out
-    requires stmt_at { StmtAt given.now.src.f.now block i end item }
-    requires set { Set given.now.src.f.now given.now.src.t (first_stmt given.now.src.f.now block) (block_stmts given.now.src.f.now block) setter }
-    ensures { (E : Edition) (set : List ℕ) → text_of E ≡ given.now.src.t → count ≡ count_set set (read E given.now.src.f.now).args
+    requires stmt_at { StmtAt given.now.src.of.f.now block i end item }
+    requires set { Set given.now.src.of.f.now given.now.src.of.t (first_stmt given.now.src.of.f.now block) (block_stmts given.now.src.of.f.now block) setter }
+    ensures { (E : Edition) (set : List ℕ) → text_of E ≡ given.now.src.of.t → count ≡ count_set set (read E given.now.src.of.f.now).args
         → seen_sheet (sheet_of lines.new tokens.new text.new result)
-        ≡ seen_sheet (write_all (sheet_of lines.old tokens.old text.old out) (lowered E given.now.src.f.now (here_at E given.now.src.f.now block) (pending E given.now.src.f.now from i) set end i)) }
+        ≡ seen_sheet (write_all (sheet_of lines.old tokens.old text.old out) (lowered E given.now.src.of.f.now (here_at E given.now.src.of.f.now block) (pending E given.now.src.of.f.now from i) set end i)) }
 {
-    let s = stmt_at(given.src.f, i, item);
+    let s = stmt_at(given.src.of.f, i, item);
     let kind = s.kind;
     match kind {
         Kind::Assign(_) => {

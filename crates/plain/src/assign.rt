@@ -38,27 +38,27 @@ use text::registers::Register;
 
 // Whether expression n loads from a slot. As in the definition, a child that is not lower is no address.
 fn is_stack_load(src: &Source<'_>, n: u32) -> bool
-    ensures { (E : Edition) → text_of E ≡ src.now.t → result ≡ is_stack_load (lowering_of E src.now.f.now) (tree_at (all_trees E src.now.f.now) n) }
+    ensures { (E : Edition) → text_of E ≡ src.now.of.t → result ≡ is_stack_load (lowering_of E src.now.of.f.now) (tree_at (all_trees E src.now.of.f.now) n) }
 {
-    if n >= size_of(src.f, EXPRESSIONS) || expr_word(src.f, n, 0) != LOAD {
+    if n >= size_of(src.of.f, EXPRESSIONS) || expr_word(src.of.f, n, 0) != LOAD {
         return false;
     }
-    let a = expr_word(src.f, n, 2);
-    a < n && stack_off(src.offs, src.f, src.t, src.numbers, src.places, a) != 0
+    let a = expr_word(src.of.f, n, 2);
+    a < n && stack_off(src.offs, &src.of, a) != 0
 }
 
 // Whether it restores a callee-saved register, value m: a load from a slot of which no value of its class is really read.
 #[tactic(auto, unfolding(crate::specs::Pieces::restored_by))]
 fn is_restore(src: &Source<'_>, roots: &[u32], marks: &[u32], i: u32, m: usize) -> bool
-    ensures { (E : Edition) → text_of E ≡ src.now.t → result ≡ restored_by src.now.f.now i (at marks.now (at roots.now m))
-        (is_stack_load (lowering_of E src.now.f.now) (tree_at (all_trees E src.now.f.now) (stmt_field src.now.f.now i 2))) }
+    ensures { (E : Edition) → text_of E ≡ src.now.of.t → result ≡ restored_by src.now.of.f.now i (at marks.now (at roots.now m))
+        (is_stack_load (lowering_of E src.now.of.f.now) (tree_at (all_trees E src.now.of.f.now) (stmt_field src.now.of.f.now i 2))) }
 {
     let x = Register {
-        number: stmt_field(src.f, i, 0),
+        number: stmt_field(src.of.f, i, 0),
     };
     x.callee_saved()
         && get(marks, get(roots, m) as usize) == 0
-        && is_stack_load(src, stmt_field(src.f, i, 2))
+        && is_stack_load(src, stmt_field(src.of.f, i, 2))
 }
 
 // Whether it is dead, RSP's, or value m is written in place.
@@ -90,35 +90,41 @@ fn put_name(
 }
 
 fn put_assign(tokens: &mut [u64], text: &mut [u8], out: Out, src: &Source<'_>, i: u32) -> Out
-    requires { (stmt_kind src.now.f.now i ≡ k_assign) × (i < size src.now.f.now statements) }
-    ensures { (E : Edition) → text_of E ≡ src.now.t → seen (room_of tokens.new text.new result)
-        ≡ seen (emit_all (room_of tokens.old text.old out) (assign_of E src.now.f.now i)) }
+    requires { (stmt_kind src.now.of.f.now i ≡ k_assign) × (i < size src.now.of.f.now statements) }
+    ensures { (E : Edition) → text_of E ≡ src.now.of.t → seen (room_of tokens.new text.new result)
+        ≡ seen (emit_all (room_of tokens.old text.old out) (assign_of E src.now.of.f.now i)) }
 {
-    let n = stmt_field(src.f, i, 2);
-    let m = number_of(src.numbers, src.places.stmts, i);
-    let out = put_name(tokens, text, out, src.f, src.names, i, m);
-    put_within(
-        tokens, text, out, src, b" = ", n, b";",
-    )
+    let n = stmt_field(src.of.f, i, 2);
+    let m = number_of(src.of.numbers, src.of.places.stmts, i);
+    let out = put_name(tokens, text, out, src.of.f, src.names, i, m);
+    put_within(tokens, text, out, src, b" = ", n, b";")
 }
 
-pub fn assign(lines: &mut [u64], tokens: &mut [u64], text: &mut [u8], out: Out, src: &Source<'_>, roots: &[u32], marks: &[u32], i: u32, end: u32) -> Out
-    requires i_value { stmt_kind src.now.f.now i ≡ k_assign }
-    requires i_lt_end { (i < end) × (end ≤ size src.now.f.now statements) }
-    requires classed { Classed src.now.f.now src.now.t (length src.now.numbers.now) src.now.offs.now roots.now marks.now }
-    ensures { (E : Edition) (H : Here) (pend : List Stmt) (set : List ℕ) → text_of E ≡ src.now.t
+pub fn assign(
+    lines: &mut [u64],
+    tokens: &mut [u64],
+    text: &mut [u8],
+    out: Out,
+    src: &Source<'_>,
+    roots: &[u32],
+    marks: &[u32],
+    i: u32,
+    end: u32,
+) -> Out
+    requires i_value { stmt_kind src.now.of.f.now i ≡ k_assign }
+    requires i_lt_end { (i < end) × (end ≤ size src.now.of.f.now statements) }
+    requires classed { Classed src.now.of.f.now src.now.of.t (length src.now.of.numbers.now) src.now.offs.now roots.now marks.now }
+    ensures { (E : Edition) (H : Here) (pend : List Stmt) (set : List ℕ) → text_of E ≡ src.now.of.t
         → seen_sheet (sheet_of lines.new tokens.new text.new result)
-        ≡ seen_sheet (write_all (sheet_of lines.old tokens.old text.old out) (lowered E src.now.f.now H pend set end i)) }
+        ≡ seen_sheet (write_all (sheet_of lines.old tokens.old text.old out) (lowered E src.now.of.f.now H pend set end i)) }
 {
-    let m = number_of(src.numbers, src.places.stmts, i);
-    if is_gone(src.f, src.placed, i, m) {
+    let m = number_of(src.of.numbers, src.of.places.stmts, i);
+    if is_gone(src.of.f, src.placed, i, m) {
         return out;
     }
     if is_restore(src, roots, marks, i, m) {
         return out;
     }
-    let out = put_assign(
-        tokens, text, out, src, i,
-    );
-    end_stmt(lines, out, src.f, i)
+    let out = put_assign(tokens, text, out, src, i);
+    end_stmt(lines, out, src.of.f, i)
 }

@@ -85,34 +85,61 @@ fn put_asm(tokens: &mut [u64], text: &mut [u8], out: Out, f: &[u8], t: u32, x: T
     }
 }
 
-fn put_other(tokens: &mut [u64], text: &mut [u8], out: Out, src: &Source<'_>, live: &[u32], phi: &[u32], i: u32, first: u32) -> Out
-    requires live_reads { (LiveReads src.now.f.now (length src.now.numbers.now) live.now) × (PhiReads src.now.f.now (length src.now.numbers.now) phi.now) }
-    requires i_bound { (i < size src.now.f.now statements) × (first ≡ first_item src.now.f.now i) }
-    ensures { (E : Edition) → text_of E ≡ src.now.t → seen (room_of tokens.new text.new result)
-        ≡ seen (emit_all (room_of tokens.old text.old out) (other_of E src.now.f.now i)) }
+fn put_other(
+    tokens: &mut [u64],
+    text: &mut [u8],
+    out: Out,
+    src: &Source<'_>,
+    live: &[u32],
+    phi: &[u32],
+    i: u32,
+    first: u32,
+) -> Out
+    requires live_reads { (LiveReads src.now.of.f.now (length src.now.of.numbers.now) live.now) × (PhiReads src.now.of.f.now (length src.now.of.numbers.now) phi.now) }
+    requires i_bound { (i < size src.now.of.f.now statements) × (first ≡ first_item src.now.of.f.now i) }
+    ensures { (E : Edition) → text_of E ≡ src.now.of.t → seen (room_of tokens.new text.new result)
+        ≡ seen (emit_all (room_of tokens.old text.old out) (other_of E src.now.of.f.now i)) }
 {
-    let s = sets_of(src.f, src.places, src.numbers, src.names, live, phi, i, first);
+    let s = sets_of(
+        src.of.f,
+        src.of.places,
+        src.of.numbers,
+        src.names,
+        live,
+        phi,
+        i,
+        first,
+    );
     let x = Text {
-        start: stmt_field(src.f, i, 0),
-        len: stmt_field(src.f, i, 1),
+        start: stmt_field(src.of.f, i, 0),
+        len: stmt_field(src.of.f, i, 1),
     };
-    put_asm(tokens, text, out, src.f, src.t, x, s)
+    put_asm(tokens, text, out, src.of.f, src.of.t, x, s)
 }
 
-pub fn other(lines: &mut [u64], tokens: &mut [u64], text: &mut [u8], out: Out, src: &Source<'_>, live: &[u32], phi: &[u32], i: u32, end: u32, first: u32) -> Out
-    requires i_value { stmt_kind src.now.f.now i ≡ k_other }
-    requires i_lt_end { (i < end) × (end ≤ size src.now.f.now statements) }
-    requires live_reads { (LiveReads src.now.f.now (length src.now.numbers.now) live.now) × (PhiReads src.now.f.now (length src.now.numbers.now) phi.now) }
-    requires first_value { first ≡ first_item src.now.f.now i }
-    ensures { (E : Edition) (H : Here) (pend : List Stmt) (set : List ℕ) → text_of E ≡ src.now.t
+pub fn other(
+    lines: &mut [u64],
+    tokens: &mut [u64],
+    text: &mut [u8],
+    out: Out,
+    src: &Source<'_>,
+    live: &[u32],
+    phi: &[u32],
+    i: u32,
+    end: u32,
+    first: u32,
+) -> Out
+    requires i_value { stmt_kind src.now.of.f.now i ≡ k_other }
+    requires i_lt_end { (i < end) × (end ≤ size src.now.of.f.now statements) }
+    requires live_reads { (LiveReads src.now.of.f.now (length src.now.of.numbers.now) live.now) × (PhiReads src.now.of.f.now (length src.now.of.numbers.now) phi.now) }
+    requires first_value { first ≡ first_item src.now.of.f.now i }
+    ensures { (E : Edition) (H : Here) (pend : List Stmt) (set : List ℕ) → text_of E ≡ src.now.of.t
         → seen_sheet (sheet_of lines.new tokens.new text.new result)
-        ≡ seen_sheet (write_all (sheet_of lines.old tokens.old text.old out) (lowered E src.now.f.now H pend set end i)) }
+        ≡ seen_sheet (write_all (sheet_of lines.old tokens.old text.old out) (lowered E src.now.of.f.now H pend set end i)) }
 {
-    if is_dead(src.f, i) {
+    if is_dead(src.of.f, i) {
         return out;
     }
-    let out = put_other(
-        tokens, text, out, src, live, phi, i, first,
-    );
-    end_stmt(lines, out, src.f, i)
+    let out = put_other(tokens, text, out, src, live, phi, i, first);
+    end_stmt(lines, out, src.of.f, i)
 }

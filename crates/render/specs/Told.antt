@@ -1,6 +1,5 @@
 -- What the tables of the analyses say: the numbers of values, their stack offsets, those written in place, the codes of names.
-use Rattle.std.specs.Prelude.{◌≡◌, true, List, ℕ, ◌<◌, length, get_or}
-use Rattle.std.proofs.Common.{Fits, w8}
+use Rattle.std.specs.Prelude.{◌≡◌, true, List, ℕ, ◌<◌, length}
 use Rattle.definition.specs.Edition.{Edition}
 use Rattle.definition.specs.Contents.{text}
 use Rattle.definition.specs.Meaning.{defined_once}
@@ -13,10 +12,6 @@ use Rattle.values.specs.Tables.{table}
 use Rattle.sums.specs.Ground.{Ground}
 use Rattle.inline.specs.Placing.{place_of}
 use Rattle.names.specs.Given.{name_table}
-
--- what a file consists of
-abbrev pub Bytes : List ℕ → Type 0
-Bytes f = (i : ℕ) → Fits w8 (get_or f i 0)
 
 -- t is the text's section
 pub record Told (f : List ℕ) (t : ℕ) (P : Places) (numbers offs places names : List ℕ) : Type 0 where

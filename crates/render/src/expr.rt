@@ -44,10 +44,10 @@ pub fn expr(
     n: u32,
     top: bool,
 ) -> Out
-    ensures { (E : Edition) → text_section E ≡ src.now.t → seen (room_of tokens.new text.new result)
-        ≡ seen (emit_all (room_of tokens.old text.old out) (rendered E src.now.f.now pos top n)) }
+    ensures { (E : Edition) → text_section E ≡ src.now.of.t → seen (room_of tokens.new text.new result)
+        ≡ seen (emit_all (room_of tokens.old text.old out) (rendered E src.now.of.f.now pos top n)) }
 {
-    let b = size_of(src.f, EXPRESSIONS);
+    let b = size_of(src.of.f, EXPRESSIONS);
     let at = Spot { pos, b, n, top };
     below(tokens, text, out, src, at)
 }
@@ -63,9 +63,9 @@ fn is_open(k: u32, pos: u32) -> bool
 // Expression n, where it is below b.
 #[cycle(rendering)]
 fn below(tokens: &mut [u64], text: &mut [u8], out: Out, src: &Source<'_>, at: Spot) -> Out
-    requires { at.b ≤ size src.now.f.now expressions }
-    ensures { (E : Edition) → text_section E ≡ src.now.t → seen (room_of tokens.new text.new result)
-        ≡ seen (emit_all (room_of tokens.old text.old out) (rendered_below E src.now.f.now at.pos at.b at.top at.n)) }
+    requires { at.b ≤ size src.now.of.f.now expressions }
+    ensures { (E : Edition) → text_section E ≡ src.now.of.t → seen (room_of tokens.new text.new result)
+        ≡ seen (emit_all (room_of tokens.old text.old out) (rendered_below E src.now.of.f.now at.pos at.b at.top at.n)) }
 {
     if out.full {
         return out;
@@ -74,9 +74,9 @@ fn below(tokens: &mut [u64], text: &mut [u8], out: Out, src: &Source<'_>, at: Sp
         return put_nothing(tokens, text, out);
     }
     match form_of(src, at.n) {
-        Form::Leaf(l) => put_leaf(tokens, text, out, src.f, src.t, l),
+        Form::Leaf(l) => put_leaf(tokens, text, out, src.of.f, src.of.t, l),
         Form::Use(r) => {
-            let place = src.places.exprs + at.n as usize;
+            let place = src.of.places.exprs + at.n as usize;
             value(tokens, text, out, src, at.pos, place, r, at.top)
         }
         Form::Bin(s) => binary(tokens, text, out, src, at, s),
@@ -88,9 +88,9 @@ fn below(tokens: &mut [u64], text: &mut [u8], out: Out, src: &Source<'_>, at: Sp
 // The operands s of expression n, and the operator between them.
 #[cycle(rendering)]
 fn binary(tokens: &mut [u64], text: &mut [u8], out: Out, src: &Source<'_>, at: Spot, s: Bin) -> Out
-    requires { at.n ≤ size src.now.f.now expressions }
-    ensures { (E : Edition) → text_section E ≡ src.now.t → seen (room_of tokens.new text.new result)
-        ≡ seen (emit_all (room_of tokens.old text.old out) (form_tokens E src.now.f.now at.pos at.n at.top (BinForm s))) }
+    requires { at.n ≤ size src.now.of.f.now expressions }
+    ensures { (E : Edition) → text_section E ≡ src.now.of.t → seen (room_of tokens.new text.new result)
+        ≡ seen (emit_all (room_of tokens.old text.old out) (form_tokens E src.now.of.f.now at.pos at.n at.top (BinForm s))) }
 {
     let left = Spot {
         b: at.n,
@@ -102,7 +102,7 @@ fn binary(tokens: &mut [u64], text: &mut [u8], out: Out, src: &Source<'_>, at: S
     let inner = !at.top;
     let out = put_if(tokens, text, out, PUNCT, b"(", inner);
     let out = below(tokens, text, out, src, left);
-    let out = put_operator(tokens, text, out, src.f, src.t, s.op);
+    let out = put_operator(tokens, text, out, src.of.f, src.of.t, s.op);
     let out = below(tokens, text, out, src, right);
     put_if(tokens, text, out, PUNCT, b")", inner)
 }
@@ -110,9 +110,9 @@ fn binary(tokens: &mut [u64], text: &mut [u8], out: Out, src: &Source<'_>, at: S
 // The operator, and the operand behind it.
 #[cycle(rendering)]
 fn unary(tokens: &mut [u64], text: &mut [u8], out: Out, src: &Source<'_>, at: Spot, s: Un) -> Out
-    requires { at.n ≤ size src.now.f.now expressions }
-    ensures { (E : Edition) → text_section E ≡ src.now.t → seen (room_of tokens.new text.new result)
-        ≡ seen (emit_all (room_of tokens.old text.old out) (form_tokens E src.now.f.now at.pos at.n at.top (UnForm s))) }
+    requires { at.n ≤ size src.now.of.f.now expressions }
+    ensures { (E : Edition) → text_section E ≡ src.now.of.t → seen (room_of tokens.new text.new result)
+        ≡ seen (emit_all (room_of tokens.old text.old out) (form_tokens E src.now.of.f.now at.pos at.n at.top (UnForm s))) }
 {
     let child = Spot {
         b: at.n,
@@ -120,7 +120,7 @@ fn unary(tokens: &mut [u64], text: &mut [u8], out: Out, src: &Source<'_>, at: Sp
         top: false,
         ..at
     };
-    let out = put_text(tokens, text, out, PUNCT, src.f, src.t, s.op);
+    let out = put_text(tokens, text, out, PUNCT, src.of.f, src.of.t, s.op);
     below(tokens, text, out, src, child)
 }
 
@@ -134,9 +134,9 @@ fn through(
     at: Spot,
     s: Load,
 ) -> Out
-    requires { at.n ≤ size src.now.f.now expressions }
-    ensures { (E : Edition) → text_section E ≡ src.now.t → seen (room_of tokens.new text.new result)
-        ≡ seen (emit_all (room_of tokens.old text.old out) (form_tokens E src.now.f.now at.pos at.n at.top (ThroughForm s))) }
+    requires { at.n ≤ size src.now.of.f.now expressions }
+    ensures { (E : Edition) → text_section E ≡ src.now.of.t → seen (room_of tokens.new text.new result)
+        ≡ seen (emit_all (room_of tokens.old text.old out) (form_tokens E src.now.of.f.now at.pos at.n at.top (ThroughForm s))) }
 {
     let child = Spot {
         b: at.n,
@@ -161,14 +161,14 @@ pub fn value(
     reg: u32,
     top: bool,
 ) -> Out
-    requires { NamedAt src.now.f.now (length src.now.numbers.now) place reg }
-    ensures { (E : Edition) → text_section E ≡ src.now.t → seen (room_of tokens.new text.new result)
-        ≡ seen (emit_all (room_of tokens.old text.old out) (used E src.now.f.now pos top (value_of (at (keyed src.now.f.now (length src.now.numbers.now)) place)))) }
+    requires { NamedAt src.now.of.f.now (length src.now.of.numbers.now) place reg }
+    ensures { (E : Edition) → text_section E ≡ src.now.of.t → seen (room_of tokens.new text.new result)
+        ≡ seen (emit_all (room_of tokens.old text.old out) (used E src.now.of.f.now pos top (value_of (at (keyed src.now.of.f.now (length src.now.of.numbers.now)) place)))) }
 {
     if out.full {
         return out;
     }
-    let v = get(src.numbers, place) as usize;
+    let v = get(src.of.numbers, place) as usize;
     let s = get(src.offs, v);
     if s != 0 {
         return put_address(tokens, text, out, s);
@@ -178,11 +178,11 @@ pub fn value(
         let i = k - 1;
         let opened = Spot {
             pos: i,
-            b: size_of(src.f, EXPRESSIONS),
-            n: stmt_field(src.f, i, 2),
+            b: size_of(src.of.f, EXPRESSIONS),
+            n: stmt_field(src.of.f, i, 2),
             top,
         };
         return below(tokens, text, out, src, opened);
     }
-    put_code(tokens, text, out, bits_of(src.f), reg, get(src.names, v))
+    put_code(tokens, text, out, bits_of(src.of.f), reg, get(src.names, v))
 }

@@ -61,31 +61,31 @@ fn names_global(f: &[u8], n: u32) -> bool
 }
 
 fn load_form(src: &Source<'_>, n: u32, s: Load) -> Form
-    ensures { (E : Edition) → text E ≡ src.now.t → result ≡ load_form E src.now.f.now n s }
+    ensures { (E : Edition) → text E ≡ src.now.of.t → result ≡ load_form E src.now.of.f.now n s }
 {
     let a = s.child;
     if a >= n {
         return Form::Through(s);
     }
-    if names_global(src.f, a) {
+    if names_global(src.of.f, a) {
         return Form::Leaf(Leaf::Global(Global {
-            address: expr_long(src.f, a, 1),
+            address: expr_long(src.of.f, a, 1),
             size: s.size,
         }));
     }
-    let o = stack_off(src.offs, src.f, src.t, src.numbers, src.places, a);
+    let o = stack_off(src.offs, &src.of, a);
     by_offset(o, Form::Through(s), Leaf::Slot(o))
 }
 
 // The form of expression n.
 pub fn form_of(src: &Source<'_>, n: u32) -> Form
-    ensures { (E : Edition) → text E ≡ src.now.t → result ≡ form_of E src.now.f.now n }
+    ensures { (E : Edition) → text E ≡ src.now.of.t → result ≡ form_of E src.now.of.f.now n }
 {
-    match node_at(src.f, n) {
+    match node_at(src.of.f, n) {
         Node::Const(c) => Form::Leaf(Leaf::Number(c)),
         Node::Use(v) => Form::Use(v.reg),
         Node::Bin(s) => {
-            let o = stack_off(src.offs, src.f, src.t, src.numbers, src.places, n);
+            let o = stack_off(src.offs, &src.of, n);
             by_offset(o, Form::Bin(s), Leaf::Address(o))
         }
         Node::Un(s) => Form::Un(s),

@@ -10,4 +10,4 @@ use mathlib.Core.Path.{◌≡◌}
 use Rattle.calling.proofs.pushed.put_pushed.Given as goal
 
 abbrev pub invariant-loop-j : goal.invariant-loop-j
-invariant-loop-j l = ((E : Edition) → text_of E ≡ l.src.t → seen (emit_all (room_of l.initial.tokens l.initial.text l.initial.out) (args_of E l.src.f.now false (pushed_nodes l.src.f.now l.from l.i))) ≡ seen (emit_all (room_of l.tokens l.text l.out) (args_of E l.src.f.now l.more (pushed_nodes l.src.f.now l.from l.j)))) × (length l.tokens ≡ length l.initial.tokens) × (length l.text ≡ length l.initial.text)
+invariant-loop-j l = ((E : Edition) → text_of E ≡ l.src.of.t → seen (emit_all (room_of l.initial.tokens l.initial.text l.initial.out) (args_of E l.src.of.f.now false (pushed_nodes l.src.of.f.now l.from l.i))) ≡ seen (emit_all (room_of l.tokens l.text l.out) (args_of E l.src.of.f.now l.more (pushed_nodes l.src.of.f.now l.from l.j)))) × (length l.tokens ≡ length l.initial.tokens) × (length l.text ≡ length l.initial.text)

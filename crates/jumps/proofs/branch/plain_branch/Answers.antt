@@ -3,7 +3,7 @@ use Rattle.jumps.proofs.Branching.{args_fit, plain_goes, plain_computed}
 use Rattle.jumps.proofs.branch.plain_branch.Goals as goal
 
 pub jump_to-requires : goal.jump_to-requires
-jump_to-requires c = record { block_bound = c.requires.inside; n_bound = args_fit _ _ _ _ c.requires c.args.src.now.bytes _ _ _ c.stmt_field.ensures c.least_of-n.ensures }
+jump_to-requires c = record { block_bound = c.requires.inside; n_bound = args_fit _ _ _ _ c.requires c.args.src.now.of.bytes _ _ _ c.stmt_field.ensures c.least_of-n.ensures }
 
 pub returns-then-to : goal.returns-then-to
 returns-then-to c = λ E s. plain_goes E _ _ _ _ _ _ _ c.goal-to.result c.goal-to.ensures _ _ c.if-to.true c.stmt_field.ensures c.least_of-n.ensures (c.jump_to.ensures E s)

@@ -5,13 +5,13 @@ use Rattle.lower.proofs.Whole.{block_lines_lem}
 use Rattle.lower.proofs.block.lower_block.Goals as goal
 
 pub last_leaves-leaves-requires : goal.last_leaves-leaves-requires
-last_leaves-leaves-requires c = end_most _ c.args.given.now.known.told.ground.counts _ c.requires.block_bound.0 _ c.requires.block_bound.1 _ c.block_stmts-n.ensures c.args.given.now.src.bytes
+last_leaves-leaves-requires c = end_most _ c.args.given.now.known.told.ground.counts _ c.requires.block_bound.0 _ c.requires.block_bound.1 _ c.block_stmts-n.ensures c.args.given.now.src.of.bytes
 
 pub operands-setter-requires : goal.operands-setter-requires
 operands-setter-requires c = end_inside _ c.args.given.now.known.told.ground.counts _ c.requires.block_bound.0 _ c.requires.block_bound.1 _ c.block_stmts-n.ensures
 
 pub overflow_add-first : goal.overflow_add-first
-overflow_add-first c = omega (arith, end_small c.args.given.now.src.f.now c.args.given.now.known.told.ground.counts c.args.block c.requires.block_bound.0 c.args.w c.requires.block_bound.1 c.block_stmts-n.result c.block_stmts-n.ensures c.args.given.now.src.bytes)
+overflow_add-first c = omega (arith, end_small c.args.given.now.src.of.f.now c.args.given.now.known.told.ground.counts c.args.block c.requires.block_bound.0 c.args.w c.requires.block_bound.1 c.block_stmts-n.result c.block_stmts-n.ensures c.args.given.now.src.of.bytes)
 
 pub stmts-v-requires : goal.stmts-v-requires
 stmts-v-requires c = let pre = c.requires in

@@ -17,10 +17,10 @@ next_item-item-requires c =
     (c.args.given.now.known.told.ground.counts, in_block _ c.args.given.now.known.told.ground.counts _ _ _ pre.block_bound.0 pre.block_bound.2 c.loop-i-test.true, c.loop-i.invariant.2)
 
 pub from_behind-from-requires : goal.from_behind-from-requires
-from_behind-from-requires c = index_small _ c.args.given.now.src.bytes _ (in_block _ c.args.given.now.known.told.ground.counts _ _ _ c.requires.block_bound.0 c.requires.block_bound.2 c.loop-i-test.true)
+from_behind-from-requires c = index_small _ c.args.given.now.src.of.bytes _ (in_block _ c.args.given.now.known.told.ground.counts _ _ _ c.requires.block_bound.0 c.requires.block_bound.2 c.loop-i-test.true)
 
 pub overflow_add-i : goal.overflow_add-i
-overflow_add-i c = omega (arith, index_small c.args.given.now.src.f.now c.args.given.now.src.bytes c.loop-i.i (in_block c.args.given.now.src.f.now c.args.given.now.known.told.ground.counts c.args.block c.args.end c.loop-i.i c.requires.block_bound.0 c.requires.block_bound.2 c.loop-i-test.true))
+overflow_add-i c = omega (arith, index_small c.args.given.now.src.of.f.now c.args.given.now.src.of.bytes c.loop-i.i (in_block c.args.given.now.src.of.f.now c.args.given.now.known.told.ground.counts c.args.block c.args.end c.loop-i.i c.requires.block_bound.0 c.requires.block_bound.2 c.loop-i-test.true))
 
 pub loop-i-smaller : goal.loop-i-smaller
 loop-i-smaller c = omega (arith, c.loop-i-test.true)

@@ -48,7 +48,7 @@ returns-in-Branch c = λ E set s n. ends_there E _ _ _ _ _ _ _ _ _ c.requires.st
 pub returns-in-Flags : goal.returns-in-Flags
 returns-in-Flags c =
     let pre = c.requires in
-    λ E set s n. flags_none _ c.args.given.now.src.bytes c.args.given.now.known.told.ground.counts _ (here_at_lem _ c.args.given.now.known.told.ground.counts _ _ _ _ pre.stmt_at) _ pre.stmt_at.first _ c.stmt_at-s.ensures _ c.in-Flags.is E _ _ set _ _
+    λ E set s n. flags_none _ c.args.given.now.src.of.bytes c.args.given.now.known.told.ground.counts _ (here_at_lem _ c.args.given.now.known.told.ground.counts _ _ _ _ pre.stmt_at) _ pre.stmt_at.first _ c.stmt_at-s.ensures _ c.in-Flags.is E _ _ set _ _
 
 pub returns-in-Return : goal.returns-in-Return
 returns-in-Return c = λ E set s n. c.returns.ensures E _ _ set s

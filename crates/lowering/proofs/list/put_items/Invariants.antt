@@ -11,4 +11,4 @@ use mathlib.Core.Path.{◌≡◌}
 use Rattle.lowering.proofs.list.put_items.Given as goal
 
 abbrev pub invariant-loop-k : goal.invariant-loop-k
-invariant-loop-k l = ((E : Edition) → text_of E ≡ l.src.t → seen (emit_all (room_of l.initial.tokens l.initial.text l.initial.out) (args_of E l.src.f.now false (listed l.src.f.now l.first l.n))) ≡ seen (emit_all (room_of l.tokens l.text l.out) (args_of E l.src.f.now (ltb 0 l.k) (listed l.src.f.now (l.first + l.k) (l.n - l.k))))) × (length l.tokens ≡ length l.initial.tokens) × (length l.text ≡ length l.initial.text)
+invariant-loop-k l = ((E : Edition) → text_of E ≡ l.src.of.t → seen (emit_all (room_of l.initial.tokens l.initial.text l.initial.out) (args_of E l.src.of.f.now false (listed l.src.of.f.now l.first l.n))) ≡ seen (emit_all (room_of l.tokens l.text l.out) (args_of E l.src.of.f.now (ltb 0 l.k) (listed l.src.of.f.now (l.first + l.k) (l.n - l.k))))) × (length l.tokens ≡ length l.initial.tokens) × (length l.text ≡ length l.initial.text)

@@ -14,7 +14,7 @@ pub below-overflow_add-place : goal.below-overflow_add-place
 below-overflow_add-place t c = omega (arith, below_place _ _ _ c.requires c.if-at.false _ _ c.args.src.now.told.ground, c.well_formed.1.1.1.1.0)
 
 pub below-value-requires : goal.below-value-requires
-below-value-requires t c = (falls_value _ _ _ _ c.decreases c.if-at.false, below_named _ _ _ c.requires c.if-at.false _ _ c.args.src.now.told.ground _ _ c.form_of.ensures _ c.in-Use.is c.args.src.now.bytes)
+below-value-requires t c = (falls_value _ _ _ _ c.decreases c.if-at.false, below_named _ _ _ c.requires c.if-at.false _ _ c.args.src.now.told.ground _ _ c.form_of.ensures _ c.in-Use.is c.args.src.now.of.bytes)
 
 pub below-binary-requires : goal.below-binary-requires
 below-binary-requires t c = (falls_node _ _ _ _ c.decreases c.if-at.false, below_within _ _ _ c.requires c.if-at.false)
@@ -29,7 +29,7 @@ pub below-returns-in-Leaf : goal.below-returns-in-Leaf
 below-returns-in-Leaf t c = below_leaf _ _ _ _ _ _ c.requires c.if-at.false _ c.form_of.ensures _ _ _ c.in-Leaf.is c.put_leaf.ensures
 
 pub below-returns-in-Use : goal.below-returns-in-Use
-below-returns-in-Use t c = below_use _ _ _ _ _ _ c.requires c.if-at.false _ c.form_of.ensures _ c.in-Use.is _ _ c.args.src.now.told.ground c.args.src.now.bytes _ _ c.value.ensures
+below-returns-in-Use t c = below_use _ _ _ _ _ _ c.requires c.if-at.false _ c.form_of.ensures _ c.in-Use.is _ _ c.args.src.now.told.ground c.args.src.now.of.bytes _ _ c.value.ensures
 
 pub below-returns-in-Bin : goal.below-returns-in-Bin
 below-returns-in-Bin t c = below_form _ _ _ _ _ _ c.requires c.if-at.false _ c.form_of.ensures _ _ _ c.in-Bin.is c.binary.ensures
@@ -71,7 +71,7 @@ pub value-overflow_sub-i : goal.value-overflow_sub-i
 value-overflow_sub-i t c = (was_open _ _ _ c.is_open.ensures c.if-is_open.true).some
 
 pub value-below-requires : goal.value-below-requires
-value-below-requires t c = (open_falls _ _ _ _ _ c.decreases (was_open _ _ _ c.is_open.ensures c.if-is_open.true) c.args.src.now.bytes c.size_of.ensures, all_within _ _ c.size_of.ensures)
+value-below-requires t c = (open_falls _ _ _ _ _ c.decreases (was_open _ _ _ c.is_open.ensures c.if-is_open.true) c.args.src.now.of.bytes c.size_of.ensures, all_within _ _ c.size_of.ensures)
 
 pub value-returns-then-is_open : goal.value-returns-then-is_open
 value-returns-then-is_open t c = value_opened _ _ _ _ _ _ _ c.args.src.now.told _ _ c.requires _ _ _ _ _ _ c.get-v.ensures c.get-s.ensures c.if-s-ne0.false _ c.get-k.ensures _ _ _ c.is_open.ensures c.if-is_open.true c.size_of.ensures c.stmt_field.ensures c.below.ensures
