@@ -9,9 +9,9 @@ ghost use Rattle.room.specs.Room.{room_of, emit_all, seen, sheet_of, write_all, 
 ghost use Rattle.gotos.specs.Written.{go_tokens, name_of, stmt_line};
 
 use calls::targets::put_target;
-use render::kinds::{KEYWORD, PUNCT, TEXT};
 use lowering::line::end_stmt;
 use pieces::put::{put, put_label};
+use render::kinds::{KEYWORD, PUNCT, TEXT};
 use room::out::Out;
 
 // `goto `

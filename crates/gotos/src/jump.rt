@@ -11,13 +11,13 @@ ghost use Rattle.gotos.specs.Written.{uses_of, stmt_line, to_block, computed_tok
 
 use crate::goto::put_goto;
 use labels::is_next;
-use render::kinds::{KEYWORD, PUNCT};
 use lowering::line::end_stmt;
 use lowering::list::put_expr;
 use pieces::put::put;
 use places::Places;
 use records::contents::item_word;
 use records::owners::stmt_field;
+use render::kinds::{KEYWORD, PUNCT};
 use room::out::Out;
 
 // `goto LABEL;`, unless the next block is meant.

@@ -7,9 +7,9 @@ ghost use Rattle.labels.specs.Labels.{Labels};
 ghost use Rattle.room.specs.Room.{sheet_of, write_all, seen_sheet};
 ghost use Rattle.lowering.specs.Lowered.{lowering_of};
 
-use render::kinds::PUNCT;
 use pieces::put::{put, put_label};
 use records::contents::block_long;
+use render::kinds::PUNCT;
 use room::line::end_line;
 use room::out::{At, Out};
 use slices::get;

@@ -7,10 +7,10 @@ ghost use Rattle.render.specs.Told.{Told};
 ghost use Rattle.gotos.specs.Written.{uses_of, name_tokens, return_if, call_tokens};
 
 use calls::targets::put_target;
-use render::kinds::{KEYWORD, PUNCT, SYMBOL, TEXT};
 use lowering::list::put_items;
 use pieces::put::put;
 use places::Places;
+use render::kinds::{KEYWORD, PUNCT, SYMBOL, TEXT};
 use room::out::Out;
 
 // `NAME(ARGS)`, with n list items from `item` on.

@@ -9,10 +9,10 @@ ghost use Rattle.gotos.specs.Written.{uses_of, return_line, tail_of, leave_of};
 use crate::goto::name_line;
 use crate::named::put_call;
 use calls::targets::leaves_raw;
-use render::kinds::{ADDRESS, KEYWORD, PUNCT};
 use lowering::line::end_stmt;
 use pieces::put::put;
 use places::Places;
+use render::kinds::{ADDRESS, KEYWORD, PUNCT};
 use room::out::Out;
 use words::word_at;
 
