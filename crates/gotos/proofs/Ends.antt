@@ -1,9 +1,11 @@
 -- A block's first and last line: the table of labels says of a block whether the definition labels it, and each test of the closing goto is the
 -- definition's.
-use mathlib.Core.Path.{◌≡◌, refl, ap, ap₂, ◌∙◌}
+use mathlib.Core.Path.{sym, ◌≡◌, refl, ap, ap₂, ◌∙◌}
 use mathlib.Core.Bool.{Bool, true, false, not, cond, ◌||◌}
 use mathlib.Core.Option.{Option, none, some}
 use mathlib.Core.List.{List, [], ◌∷◌, ◌++◌, map}
+use Rattle.std.specs.Prelude.{Option as Answer, Some, None}
+use Rattle.std.specs.Option.{option_or}
 use Prim.Native.Nat.{ℕ, ◌-◌, ◌<◌}
 use native.Mathlib.Omega.{arith}
 use lib.ListN.{length, replicate}
@@ -21,7 +23,7 @@ use Rattle.definition.specs.Blocks.{lowering, closing, label_line}
 use Rattle.definition.specs.Listing.{padded}
 use Rattle.records.proofs.Ranges.{map-map}
 use Rattle.ssa.specs.Block.{block_record}
-use Rattle.ssa.specs.View.{view_destination}
+use Rattle.ssa.specs.View.{option_of as view_edge}
 use Rattle.ssa.specs.declared.block.Block.{Block as BlockS}
 use Rattle.values.proofs.Ranges.{at_left, map_length, at_below}
 use Rattle.labels.specs.Labels.{start_at, next_at, Labels}
@@ -32,7 +34,7 @@ use Rattle.room.specs.Ending.{Ended}
 use Rattle.room.proofs.Laws.{next, one, line_ends, written_none}
 use Rattle.lowering.specs.Lowered.{lowering_of, here_at}
 use Rattle.lowering.proofs.Lines.{left_out, not_out}
-use Rattle.gotos.proofs.Edges.{edges_are}
+use Rattle.gotos.proofs.Edges.{edges_are, or_viewed}
 
 -- the same lines, named otherwise
 pub lines_are : (s s₀ : Sheet) (xs ls : List Line) → ls ≡ xs → seen_sheet s ≡ seen_sheet (write_all s₀ xs) → seen_sheet s ≡ seen_sheet (write_all s₀ ls)
@@ -78,7 +80,7 @@ module _ (E : Edition) (f labels : List ℕ) (b : ℕ) (all : Labels f (length l
       rw (marked_so (among (block_long f b 0) (lowering_of E f).jumps) label_says h, ← p) (line_ends l l' r₀ room o 0 (some a) _ (next room r₀ _ _ e (one room r₁ _ c)) d)
 
 -- ---- the closing goto
-pub out_next : (b c d : Bool) → d ≡ b → d ≡ true → true ≡ (b || c)
+pub out_next : (b c d : Bool) → d ≡ b → d ≡ true → d ≡ (b || c)
 out_next b c d p h = rw (← p, h)
 
 pub out_other : (b c d x : Bool) → d ≡ b → d ≡ false → x ≡ c → not x ≡ (b || not c)
@@ -119,19 +121,16 @@ module _ (E : Edition) (f : List ℕ) (b : ℕ) where
         lines_are s s₀ (closing (lowering_of E f) (here_at E f b) o) (closed leaves)
         (ap (λ (c : Bool). cond c [] (closing (lowering_of E f) (here_at E f b) edge)) on ∙ ap (closing (lowering_of E f) (here_at E f b)) p) e
 
-    edge_by : edge ≡ or_else (view_destination x.fall) (view_destination x.taken)
-    unfolding here_at block_at
-    edge_by = ap₂ (λ (o p : Option ℕ). or_else o p) (edges_are f b x is).1 (edges_are f b x is).0
+    module _ (o : Answer ℕ) (first : o ≡ option_or x.fall x.taken) where
+      edge_by : edge ≡ view_edge o
+      unfolding here_at block_at
+      edge_by =
+          ap₂ (λ (o p : Option ℕ). or_else o p) (edges_are f b x is).1 (edges_are f b x is).0
+          ∙ sym (or_viewed x.fall x.taken) ∙ ap (λ (q : Answer ℕ). view_edge q) (sym first)
 
-    pub closing_fall : x.fall.there ≡ true → Closes (some x.fall.address)
-    unfolding or_else
-    closing_fall h = closing_by (some x.fall.address) (edge_by ∙ rw h)
+      pub closing_goes : (a : ℕ) → o ≡ Some a → Closes (some a)
+      closing_goes a h = closing_by (some a) (edge_by ∙ ap (λ (q : Answer ℕ). view_edge q) h)
 
-    module _ (n : x.fall.there ≡ false) where
-      pub closing_taken : x.taken.there ≡ true → Closes (some x.taken.address)
-      unfolding or_else
-      closing_taken h = closing_by (some x.taken.address) (edge_by ∙ rw (n, h))
-
-      pub closing_none : (s : Sheet) → x.taken.there ≡ false → seen_sheet s ≡ seen_sheet (write_all s (closed leaves))
-      unfolding closing or_else
-      closing_none s h = closing_by none (edge_by ∙ rw (n, h)) s s (written_none s)
+      pub closing_none : (s : Sheet) → o ≡ None → seen_sheet s ≡ seen_sheet (write_all s (closed leaves))
+      unfolding closing
+      closing_none s h = closing_by none (edge_by ∙ ap (λ (q : Answer ℕ). view_edge q) h) s s (written_none s)

@@ -23,10 +23,7 @@ fn is_left_out(f: &[u8], block: u32, a: u64) -> bool
     requires { block < size f.now blocks }
     ensures { (E : Edition) → result ≡ (is_next (next_at f.now block) a || not (among a (order (read E f.now)))) }
 {
-    if is_next(f, block, a) {
-        return true;
-    }
-    !is_block(f, a)
+    is_next(f, block, a) || !is_block(f, a)
 }
 
 // The goto from the block to a.
@@ -68,11 +65,8 @@ pub fn closing(
         return out;
     }
     let b = block_at(f, block);
-    if b.fall.there {
-        return close_to(lines, tokens, text, out, f, block, b.fall.address);
-    }
-    if b.taken.there {
-        return close_to(lines, tokens, text, out, f, block, b.taken.address);
-    }
-    out
+    let Some(a) = b.fall.or(b.taken) else {
+        return out;
+    };
+    close_to(lines, tokens, text, out, f, block, a)
 }

@@ -5,5 +5,5 @@ use Rattle.gotos.proofs.closing.is_left_out.Goals as goal
 pub returns-then-is_next : goal.returns-then-is_next
 returns-then-is_next c = λ E. out_next _ _ _ c.is_next.ensures c.if-is_next.true
 
-pub returns : goal.returns
-returns c = λ E. out_other _ _ _ _ c.is_next.ensures c.if-is_next.false (c.is_block.ensures E)
+pub returns-else-is_next : goal.returns-else-is_next
+returns-else-is_next c = λ E. out_other _ _ _ _ c.is_next.ensures c.if-is_next.false (c.is_block.ensures E)
