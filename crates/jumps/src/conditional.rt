@@ -6,34 +6,20 @@ ghost use Rattle.definition.specs.Owners.{block_stmts, first_stmt};
 ghost use Rattle.room.specs.Room.{room_of, emit_all, seen, sheet_of, write_all, seen_sheet};
 ghost use Rattle.render.specs.Told.{Told};
 ghost use Rattle.conditions.specs.Pairs.{Set};
-ghost use Rattle.jumps.specs.Written.{condition_of, if_tokens, aim_of, test_tokens, fall_of, if_lines};
+ghost use Rattle.jumps.specs.Written.{condition_of, if_tokens, test_tokens, fall_of, if_lines};
 
+use crate::targets::aim;
 use conditions::condition::put_condition;
-use conditions::operands::Found;
+use conditions::operands::Pair;
 use gotos::goto::{name_line, put_goto_name};
 use labels::is_next;
-use render::kinds::{KEYWORD, PUNCT, SYMBOL};
 use lowering::line::end_stmt;
 use pieces::put::put;
 use places::Places;
-use records::contents::stmt_long;
 use records::owners::stmt_field;
+use render::kinds::{KEYWORD, PUNCT, SYMBOL};
 use room::out::Out;
 use ssa::block::block_at;
-
-// Where it goes: the block's taken edge, else its own target, else 0.
-fn aim(f: &[u8], block: u32, i: u32) -> u64
-    ensures { result ≡ aim_of f.now block i }
-{
-    let b = block_at(f, block);
-    if b.taken.there {
-        return b.taken.address;
-    }
-    if stmt_field(f, i, 3) == 1 {
-        return stmt_long(f, i, 8);
-    }
-    0
-}
 
 // What it tests.
 fn put_tested(
@@ -49,7 +35,7 @@ fn put_tested(
     names: &[u32],
     block: u32,
     i: u32,
-    setter: Found,
+    setter: Option<Pair>,
 ) -> Out
     requires told { Told f.now t places numbers.now offs.now placed.now names.now }
     requires set { Set f.now t (first_stmt f.now block) (block_stmts f.now block) setter }
@@ -77,7 +63,7 @@ fn put_if(
     names: &[u32],
     block: u32,
     i: u32,
-    setter: Found,
+    setter: Option<Pair>,
 ) -> Out
     requires told { Told f.now t places numbers.now offs.now placed.now names.now }
     requires set { Set f.now t (first_stmt f.now block) (block_stmts f.now block) setter }
@@ -105,7 +91,7 @@ fn put_test(
     names: &[u32],
     block: u32,
     i: u32,
-    setter: Found,
+    setter: Option<Pair>,
 ) -> Out
     requires told { Told f.now t places numbers.now offs.now placed.now names.now }
     requires set { Set f.now t (first_stmt f.now block) (block_stmts f.now block) setter }
@@ -135,11 +121,9 @@ fn fall_line(
     ensures { (E : Edition) → text_of E ≡ t → seen_sheet (sheet_of lines.new tokens.new text.new result)
         ≡ seen_sheet (write_all (sheet_of lines.old tokens.old text.old out) (fall_of E f.now block i)) }
 {
-    let b = block_at(f, block);
-    if !b.fall.there {
+    let Some(a) = block_at(f, block).fall else {
         return out;
-    }
-    let a = b.fall.address;
+    };
     if is_next(f, block, a) {
         return out;
     }
@@ -161,7 +145,7 @@ pub fn conditional(
     names: &[u32],
     block: u32,
     i: u32,
-    setter: Found,
+    setter: Option<Pair>,
 ) -> Out
     requires told { Told f.now t places numbers.now offs.now placed.now names.now }
     requires block_bound { block < size f.now blocks }
