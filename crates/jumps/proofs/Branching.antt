@@ -4,7 +4,8 @@ use mathlib.Core.Path.{◌≡◌, refl, sym, ap, ap₂, ◌∙◌}
 use mathlib.Core.Bool.{Bool, true, false, cond}
 use mathlib.Core.Option.{Option, none, some}
 use mathlib.Core.List.{List, [], ◌∷◌, ◌++◌, map}
-use Prim.Native.Nat.{ℕ, ◌+◌, ◌<◌}
+use Rattle.std.specs.Prelude.{Option as Answer, Some, None}
+use Prim.Native.Nat.{ℕ, min, ◌+◌, ◌<◌}
 use native.Mathlib.Omega.{arith}
 use lib.ListN.{take, get_or}
 use mir.Syntax.{w8}
@@ -13,7 +14,7 @@ use borrow.Author.Tests.{eq-eqb, ne_eqb}
 use Rattle.definition.specs.Edition.{Edition}
 use Rattle.definition.specs.Texts.{txt, begins}
 use Rattle.definition.specs.Lists.{among, or_else}
-use Rattle.definition.specs.Contents.{block_word, block_long, stmt_long, text_at}
+use Rattle.definition.specs.Contents.{block_word, block_long, text_at}
 use Rattle.definition.specs.Owners.{stmt_kind, stmt_field, expr_items}
 use Rattle.definition.specs.References.{item_exprs}
 use Rattle.definition.specs.Ssa.{Expr, Stmt}
@@ -25,67 +26,52 @@ use Rattle.definition.specs.Lower.{goto_tokens, count_set, fall_line, branch_if,
 use Rattle.definition.specs.Blocks.{lowering}
 use Rattle.records.proofs.Items.{items_few, exprs_fit}
 use Rattle.records.proofs.Laws.{kind_exprs}
-use Rattle.ssa.specs.Block.{block_record}
-use Rattle.ssa.specs.View.{view_destination}
-use Rattle.ssa.specs.declared.block.Block.{Block}
-use Rattle.ssa.specs.declared.parts.Destination.{Destination}
+use Rattle.ssa.specs.View.{option_of}
 use Rattle.inline.specs.Placing.{behind}
 use Rattle.labels.specs.Labels.{start_at, next_at}
 use Rattle.room.specs.Room.{Sheet, write_all, seen_sheet}
 use Rattle.room.proofs.Laws.{written_none}
 use Rattle.lowering.specs.Lowered.{lowering_of, stmt_of, lowered, here_at}
 use Rattle.jumps.specs.Given.{BranchAt}
-use Rattle.lowering.specs.Commas.{least}
 use Rattle.gotos.specs.Written.{uses_of, name_of, stmt_line, to_block, computed_tokens, name_tokens, return_if, call_tokens, end_tokens, return_line, tail_by, tail_of, leave_of}
 use Rattle.jumps.specs.Written.{condition_of, if_tokens, own_of, aim_of, test_tokens, fall_to, fall_of, if_lines, jump_of, plain_to, goal_of, plain_of}
-use Rattle.lowering.proofs.Commas.{least_le, take_listed}
+use Rattle.lowering.proofs.Commas.{take_listed}
 use Rattle.lowering.proofs.Gen.{lowering_returns, lowering_args}
 use Rattle.jumps.proofs.Naming.{name_is}
 use Rattle.gotos.proofs.Using.{uses_are}
-use Rattle.gotos.proofs.Edges.{edges_are}
 use Rattle.gotos.proofs.Ends.{lines_are}
 
 -- ---- what a branch gives its parts
 module _ (f : List ℕ) (block i item : ℕ) (at : BranchAt f block i item) where
-  pub args_fit : ((k : ℕ) → Fits w8 (get_or f k 0)) → (count x n : ℕ) → x ≡ stmt_field f i 6 → n ≡ least count x → item + n < 4294967296
+  pub args_fit : ((k : ℕ) → Fits w8 (get_or f k 0)) → (count x n : ℕ) → x ≡ stmt_field f i 6 → n ≡ min count x → item + n < 4294967296
   args_fit bytes count x n e p =
       let few : item + expr_items f i < 4294967296 = exprs_fit f (items_few f bytes at.own) i refl at.here at.first in
       let all : x ≡ expr_items f i = kind_exprs f i (stmt_kind f i) x refl 4 at.kind e in
-      omega (arith, least_le count x)
+      omega arith
 
 -- ---- the first of a run
-take_uses : (E : Edition) (f : List ℕ) (c a n : ℕ) → take c (uses_of E f a n) ≡ uses_of E f a (least c n)
+take_uses : (E : Edition) (f : List ℕ) (c a n : ℕ) → take c (uses_of E f a n) ≡ uses_of E f a (min c n)
 unfolding uses_of
 take_uses = take_listed
 
--- ---- where a plain branch goes
-module _ (f : List ℕ) (b i w : ℕ) (own : w ≡ stmt_field f i 3) where
-  pub goal_own : (a : ℕ) → w ≡ 1 → a ≡ stmt_long f i 8 → some a ≡ goal_of f b i
-  unfolding goal_of or_else
-  goal_own a h p = rw (← own, eq-eqb w 1 h) (ap (λ (x : ℕ). some x) p)
-
-  pub goal_taken : (x : Block) → (w ≡ 1 → ⊥) → x ≡ block_record f b → view_destination x.taken ≡ goal_of f b i
-  unfolding goal_of or_else
-  goal_taken x n is = rw (← own, ne_eqb w 1 n) (sym (edges_are f b x is).0)
-
 -- ---- its lines
-module _ (E : Edition) (f : List ℕ) (b i item count : ℕ) (s s₀ : Sheet) (d : Destination) (goes : view_destination d ≡ goal_of f b i) where
-  pub plain_goes : (x m : ℕ) → d.there ≡ true → x ≡ stmt_field f i 6 → m ≡ least count x
-      → seen_sheet s ≡ seen_sheet (write_all s₀ (jump_of E f b i d.address (uses_of E f item m))) → seen_sheet s ≡ seen_sheet (write_all s₀ (plain_of E f b i item count))
+module _ (E : Edition) (f : List ℕ) (b i item count : ℕ) (s s₀ : Sheet) (d : Answer ℕ) (goes : option_of d ≡ goal_of f b i) where
+  pub plain_goes : (a x m : ℕ) → d ≡ Some a → x ≡ stmt_field f i 6 → m ≡ min count x
+      → seen_sheet s ≡ seen_sheet (write_all s₀ (jump_of E f b i a (uses_of E f item m))) → seen_sheet s ≡ seen_sheet (write_all s₀ (plain_of E f b i item count))
   unfolding plain_of plain_to
-  plain_goes x m h uses few k =
-      let to : goal_of f b i ≡ some d.address = sym goes ∙ rw h in
-      lines_are s s₀ (jump_of E f b i d.address (uses_of E f item m)) (plain_of E f b i item count)
-      (ap (plain_to E f b i item (stmt_field f i 6) (least count (stmt_field f i 6))) to
-      ∙ sym (ap (λ (n : ℕ). jump_of E f b i d.address (uses_of E f item n)) (few ∙ ap (least count) uses))) k
+  plain_goes a x m h uses few k =
+      let to : goal_of f b i ≡ some a = sym goes ∙ ap (λ (o : Answer ℕ). option_of o) h in
+      lines_are s s₀ (jump_of E f b i a (uses_of E f item m)) (plain_of E f b i item count)
+      (ap (plain_to E f b i item (stmt_field f i 6) (min count (stmt_field f i 6))) to
+      ∙ sym (ap (λ (n : ℕ). jump_of E f b i a (uses_of E f item n)) (few ∙ ap (min count) uses))) k
 
-  pub plain_computed : d.there ≡ false → seen_sheet s ≡ seen_sheet (write_all s₀ (stmt_line f i (computed_tokens E f item (stmt_field f i 6))))
+  pub plain_computed : d ≡ None → seen_sheet s ≡ seen_sheet (write_all s₀ (stmt_line f i (computed_tokens E f item (stmt_field f i 6))))
       → seen_sheet s ≡ seen_sheet (write_all s₀ (plain_of E f b i item count))
   unfolding plain_of plain_to
   plain_computed h k =
-      let to : goal_of f b i ≡ none = sym goes ∙ rw h in
+      let to : goal_of f b i ≡ none = sym goes ∙ ap (λ (o : Answer ℕ). option_of o) h in
       lines_are s s₀ (stmt_line f i (computed_tokens E f item (stmt_field f i 6))) (plain_of E f b i item count)
-      (ap (plain_to E f b i item (stmt_field f i 6) (least count (stmt_field f i 6))) to) k
+      (ap (plain_to E f b i item (stmt_field f i 6) (min count (stmt_field f i 6))) to) k
 
 -- ---- to a: a block, or out of the function
 module _ (E : Edition) (f : List ℕ) (b i a : ℕ) (xs : List Expr) (d : Bool) (says : d ≡ among a (order (read E f))) (s s₀ : Sheet) where
@@ -103,7 +89,7 @@ module _ (E : Edition) (f : List ℕ) (b i item count : ℕ) (at : BranchAt f b 
   uses = uses_of E f item (stmt_field f i 6)
 
   abbrev args : List Expr
-  args = uses_of E f item (least count (stmt_field f i 6))
+  args = uses_of E f item (min count (stmt_field f i 6))
 
   -- the conditional
   fall_by : (o : Option ℕ) → fall_line (lowering_of E f) (here_at E f b) (stmt_of E f i) o ≡ fall_to E f b i o
@@ -140,7 +126,7 @@ module _ (E : Edition) (f : List ℕ) (b i item count : ℕ) (at : BranchAt f b 
   unfolding leave leave_of stmt_line stmt_at
   leave_is a = ap (λ (ls : List Line). cond (begins (txt "*") (name_of E f a)) (stmt_line f i (goto_tokens (address (name_of E f a)))) ls) (tail_is a)
 
-  to_is : (o : Option ℕ) → branch_to (lowering_of E f) (here_at E f b) set (stmt_of E f i) o uses ≡ plain_to E f b i item (stmt_field f i 6) (least count (stmt_field f i 6)) o
+  to_is : (o : Option ℕ) → branch_to (lowering_of E f) (here_at E f b) set (stmt_of E f i) o uses ≡ plain_to E f b i item (stmt_field f i 6) (min count (stmt_field f i 6)) o
   unfolding branch_to plain_to jump_of computed_tokens to_block stmt_line stmt_at here_at next_at start_at lowering_of lowering
   to_is none = refl
   to_is (some a) =

@@ -1,5 +1,5 @@
 -- The pieces and the lines of branches, by the numbers of blocks, statements and list items.
-use Rattle.std.specs.Prelude.{cond, List, [], ◌∷◌, ◌++◌, ℕ}
+use Rattle.std.specs.Prelude.{min, cond, List, [], ◌∷◌, ◌++◌, ℕ}
 use Rattle.std.proofs.Math.Option.{Option, none, some}
 use Rattle.definition.specs.Edition.{Edition}
 use Rattle.definition.specs.Texts.{txt}
@@ -14,7 +14,6 @@ use Rattle.definition.specs.Condition.{condition}
 use Rattle.definition.specs.Lower.{goto_tokens}
 use Rattle.labels.specs.Labels.{next_at}
 use Rattle.lowering.specs.Lowered.{lowering_of, here_at}
-use Rattle.lowering.specs.Commas.{least}
 use Rattle.gotos.specs.Written.{uses_of, name_of, stmt_line, to_block, computed_tokens, leave_of}
 
 -- ---- a conditional branch of block b
@@ -60,4 +59,4 @@ unfoldable pub goal_of : List ℕ → ℕ → ℕ → Option ℕ
 goal_of f b i = or_else (own_of f i) (when (block_word f b 2) (block_long f b 3))
 
 unfoldable pub plain_of : Edition → List ℕ → ℕ → ℕ → ℕ → ℕ → List Line
-plain_of E f b i item count = plain_to E f b i item (stmt_field f i 6) (least count (stmt_field f i 6)) (goal_of f b i)
+plain_of E f b i item count = plain_to E f b i item (stmt_field f i 6) (min count (stmt_field f i 6)) (goal_of f b i)

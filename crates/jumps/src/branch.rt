@@ -6,41 +6,22 @@ ghost use Rattle.definition.specs.Owners.{block_stmts, first_stmt};
 ghost use Rattle.definition.specs.Ssa.{Stmt};
 ghost use Rattle.definition.specs.Read.{read};
 ghost use Rattle.definition.specs.Lower.{count_set};
-ghost use Rattle.ssa.specs.View.{view_destination};
 ghost use Rattle.room.specs.Room.{sheet_of, write_all, seen_sheet};
 ghost use Rattle.lowering.specs.Lowered.{lowered, here_at};
 ghost use Rattle.conditions.specs.Pairs.{Set};
 ghost use Rattle.gotos.specs.Written.{uses_of};
 ghost use Rattle.jumps.specs.Given.{BranchAt};
-ghost use Rattle.jumps.specs.Written.{jump_of, goal_of, plain_of};
+ghost use Rattle.jumps.specs.Written.{jump_of, plain_of};
 
 use crate::conditional::conditional;
+use crate::targets::goal;
 use calls::targets::is_block;
-use conditions::operands::Found;
+use conditions::operands::Pair;
 use gotos::jump::{computed, to_block};
 use gotos::tail::leave;
-use lowering::list::least_of;
-use records::contents::stmt_long;
 use records::owners::{is_dead, stmt_field};
 use render::source::Source;
 use room::out::Out;
-use ssa::block::block_at;
-use ssa::parts::Destination;
-
-// Where a plain branch goes, if to an address: to its own target, else where the block goes.
-fn goal(f: &[u8], block: u32, i: u32) -> Destination
-    ensures { view_destination result ≡ goal_of f.now block i }
-{
-    if stmt_field(f, i, 3) == 1 {
-        return Destination {
-            there: true,
-            address: stmt_long(f, i, 8),
-        };
-    }
-    let b = block_at(f, block);
-    let taken = b.taken;
-    taken
-}
 
 // To a: a block, or out of the function with n list items from `item` on as arguments.
 fn jump_to(
@@ -82,12 +63,11 @@ fn plain_branch(
     ensures { (E : Edition) → text_of E ≡ src.now.of.t → seen_sheet (sheet_of lines.new tokens.new text.new result)
         ≡ seen_sheet (write_all (sheet_of lines.old tokens.old text.old out) (plain_of E src.now.of.f.now block i item count)) }
 {
-    let to = goal(src.of.f, block, i);
-    if to.there {
-        let n = least_of(count, stmt_field(src.of.f, i, 6));
-        return jump_to(lines, tokens, text, out, src, block, i, to.address, item, n);
-    }
-    computed(lines, tokens, text, out, src, i, item)
+    let Some(a) = goal(src.of.f, block, i) else {
+        return computed(lines, tokens, text, out, src, i, item);
+    };
+    let n = count.min(stmt_field(src.of.f, i, 6));
+    jump_to(lines, tokens, text, out, src, block, i, a, item, n)
 }
 
 // Of the statement i in a block, with `count` argument registers set; its uses are list items from `item` on, and `setter` set the block's flags.
@@ -101,7 +81,7 @@ pub fn branch(
     i: u32,
     item: u32,
     count: u32,
-    setter: Found,
+    setter: Option<Pair>,
 ) -> Out
     requires branch_at { BranchAt src.now.of.f.now block i item }
     requires set { Set src.now.of.f.now src.now.of.t (first_stmt src.now.of.f.now block) (block_stmts src.now.of.f.now block) setter }

@@ -5,34 +5,20 @@ ghost use Rattle.definition.specs.Contents.{size, text as text_of};
 ghost use Rattle.definition.specs.Owners.{block_stmts, first_stmt};
 ghost use Rattle.room.specs.Room.{room_of, emit_all, seen, sheet_of, write_all, seen_sheet};
 ghost use Rattle.conditions.specs.Pairs.{Set};
-ghost use Rattle.jumps.specs.Written.{condition_of, if_tokens, aim_of, test_tokens, fall_of, if_lines};
+ghost use Rattle.jumps.specs.Written.{condition_of, if_tokens, test_tokens, fall_of, if_lines};
 
+use crate::targets::aim;
 use conditions::condition::put_condition;
-use conditions::operands::Found;
+use conditions::operands::Pair;
 use gotos::goto::{name_line, put_goto_name};
 use labels::is_next;
 use lowering::line::end_stmt;
 use pieces::put::put;
-use records::contents::stmt_long;
 use records::owners::stmt_field;
 use render::kinds::{KEYWORD, PUNCT, SYMBOL};
 use render::source::Source;
 use room::out::Out;
 use ssa::block::block_at;
-
-// Where it goes: the block's taken edge, else its own target, else 0.
-fn aim(f: &[u8], block: u32, i: u32) -> u64
-    ensures { result ≡ aim_of f.now block i }
-{
-    let b = block_at(f, block);
-    if b.taken.there {
-        return b.taken.address;
-    }
-    if stmt_field(f, i, 3) == 1 {
-        return stmt_long(f, i, 8);
-    }
-    0
-}
 
 // What it tests.
 fn put_tested(
@@ -42,7 +28,7 @@ fn put_tested(
     src: &Source<'_>,
     block: u32,
     i: u32,
-    setter: Found,
+    setter: Option<Pair>,
 ) -> Out
     requires { Set src.now.of.f.now src.now.of.t (first_stmt src.now.of.f.now block) (block_stmts src.now.of.f.now block) setter }
     ensures { (E : Edition) → text_of E ≡ src.now.of.t → seen (room_of tokens.new text.new result)
@@ -61,7 +47,7 @@ fn put_if(
     src: &Source<'_>,
     block: u32,
     i: u32,
-    setter: Found,
+    setter: Option<Pair>,
 ) -> Out
     requires { Set src.now.of.f.now src.now.of.t (first_stmt src.now.of.f.now block) (block_stmts src.now.of.f.now block) setter }
     ensures { (E : Edition) → text_of E ≡ src.now.of.t → seen (room_of tokens.new text.new result)
@@ -80,7 +66,7 @@ fn put_test(
     src: &Source<'_>,
     block: u32,
     i: u32,
-    setter: Found,
+    setter: Option<Pair>,
 ) -> Out
     requires { Set src.now.of.f.now src.now.of.t (first_stmt src.now.of.f.now block) (block_stmts src.now.of.f.now block) setter }
     ensures { (E : Edition) → text_of E ≡ src.now.of.t → seen (room_of tokens.new text.new result)
@@ -107,11 +93,9 @@ fn fall_line(
     ensures { (E : Edition) → text_of E ≡ t → seen_sheet (sheet_of lines.new tokens.new text.new result)
         ≡ seen_sheet (write_all (sheet_of lines.old tokens.old text.old out) (fall_of E f.now block i)) }
 {
-    let b = block_at(f, block);
-    if !b.fall.there {
+    let Some(a) = block_at(f, block).fall else {
         return out;
-    }
-    let a = b.fall.address;
+    };
     if is_next(f, block, a) {
         return out;
     }
@@ -127,7 +111,7 @@ pub fn conditional(
     src: &Source<'_>,
     block: u32,
     i: u32,
-    setter: Found,
+    setter: Option<Pair>,
 ) -> Out
     requires block_bound { block < size src.now.of.f.now blocks }
     requires set { Set src.now.of.f.now src.now.of.t (first_stmt src.now.of.f.now block) (block_stmts src.now.of.f.now block) setter }

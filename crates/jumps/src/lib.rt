@@ -3,3 +3,4 @@
 
 pub mod branch;
 pub mod conditional;
+mod targets;
