@@ -1,4 +1,2 @@
-mod Answering
 pub mod Fitting
-mod Refusing
 pub mod Unique

@@ -2,9 +2,10 @@
 ghost use Rattle.std.specs.Prelude.{◌≡◌};
 ghost use Rattle.lent.specs.Answers.{refused_with, listed_with, answer_of};
 
-use structure::answers::{Counts, Structured};
+use passes::sweeps::TooDeep;
+use structure::answers::Counts;
 
-// The number of the refusal with no counts, or 0 with what the listing has.
+// The number of the refusal with no counts, or 0 with what the listing has: plain numbers, as C reads them.
 #[repr(C)]
 #[derive(Clone, Copy)]
 pub struct Answer {
@@ -17,7 +18,7 @@ pub struct Answer {
     pub tests: usize,
 }
 
-// What lowering answers: the number of the refusal, or 0 and how many lines there are.
+// What lowering answers: the number of the refusal, or 0 and how many lines there are, as C reads them.
 #[repr(C)]
 #[derive(Clone, Copy)]
 pub struct Lowered {
@@ -54,11 +55,12 @@ fn listed(c: Counts) -> Answer
 }
 
 // What structuring answers.
-pub fn answer_of(s: Structured) -> Answer
+#[tactic(auto, unfolding(crate::specs::Answers::answer_of))]
+pub fn answer_of(s: Result<Counts, TooDeep>) -> Answer
     ensures { result ≡ answer_of s }
 {
     match s {
-        Structured::TooDeep => refused(9),
-        Structured::Listed(c) => listed(c),
+        Ok(c) => listed(c),
+        Err(TooDeep) => refused(9),
     }
 }

@@ -1,10 +1,8 @@
 -- What the functions of the negation write: one token flipped where it has text, the others as they are.
 use mathlib.Core.Path.{◌≡◌}
-use mathlib.Core.Bool.{Bool, true, false, not, ◌&&◌}
+use mathlib.Core.Bool.{Bool, true, false}
 use mathlib.Core.List.{List, [], ◌∷◌}
 use Prim.Native.Nat.{ℕ}
-use borrow.Author.Tests.{eq-eqb, ne_eqb}
-use lib.Dec.{eqb}
 use Rattle.definition.specs.Texts.{is_empty}
 use Rattle.definition.specs.Lists.{only}
 use Rattle.definition.specs.Tokens.{Token, tok}

@@ -1,4 +1,4 @@
--- The six counts written one behind the other; and the answer's number and counts, by which of the two it is.
+-- The six counts written one behind the other.
 use mathlib.Core.Path.{◌≡◌, refl, sym, ap, ◌∙◌}
 use mathlib.Core.List.{List, [], ◌∷◌}
 use Prim.Native.Nat.{ℕ, ◌<◌, ◌≤◌}
@@ -28,11 +28,3 @@ pub all_counts : (c : List ℕ) (k : Counts) → 6 ≤ length c
     → set (set (set (set (set (set c 0 k.lines) 1 k.tokens) 2 k.bytes) 3 k.ifs) 4 k.loops) 5 k.tests ≡ counted c k
 unfolding counted
 all_counts c k h = rw (le-ltb (length c) 6 h) (six c k.lines k.tokens k.bytes k.ifs k.loops k.tests h)
-
-pub deep_numbers : (a : Structured) (c c' : List ℕ) → a ≡ Err too_deep → c' ≡ counted c (record { lines = 0; tokens = 0; bytes = 0; ifs = 0; loops = 0; tests = 0 }) → Numbered a c 9 c'
-unfolding number_of counts_of
-deep_numbers a c c' e h = record { number = sym (ap number_of e); counts = h ∙ sym (ap (λ (z : Structured). counted c (counts_of z)) e) }
-
-pub listed_numbers : (a : Structured) (k : Counts) (c c' : List ℕ) → a ≡ Ok k → c' ≡ counted c k → Numbered a c 0 c'
-unfolding number_of counts_of
-listed_numbers a k c c' e h = record { number = sym (ap number_of e); counts = h ∙ sym (ap (λ (z : Structured). counted c (counts_of z)) e) }

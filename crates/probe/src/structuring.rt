@@ -3,7 +3,8 @@ ghost use Rattle.std.specs.Prelude.{◌≡◌};
 ghost use Rattle.structure.specs.Lowered.{Known};
 ghost use Rattle.probe.specs.Numbered.{counted, Numbered, Exported};
 
-use structure::answers::{Counts, Structured};
+use passes::sweeps::TooDeep;
+use structure::answers::Counts;
 use structure::structure;
 
 // How many counts there are.
@@ -25,25 +26,30 @@ fn put_counts(counts: &mut [u64], c: Counts)
 }
 
 // 0, or 9, with zeros for counts.
-fn number_of(counts: &mut [u64], r: Structured) -> u32
+#[tactic(auto, unfolding(crate::specs::Numbered::number_of, crate::specs::Numbered::counts_of))]
+fn number_of(counts: &mut [u64], r: Result<Counts, TooDeep>) -> u32
     ensures { Numbered r counts.old result counts.new }
 {
-    let Structured::Listed(c) = r else {
-        put_counts(
-            counts,
-            Counts {
-                lines: 0,
-                tokens: 0,
-                bytes: 0,
-                ifs: 0,
-                loops: 0,
-                tests: 0,
-            },
-        );
-        return 9;
-    };
-    put_counts(counts, c);
-    0
+    match r {
+        Ok(c) => {
+            put_counts(counts, c);
+            0
+        }
+        Err(TooDeep) => {
+            put_counts(
+                counts,
+                Counts {
+                    lines: 0,
+                    tokens: 0,
+                    bytes: 0,
+                    ifs: 0,
+                    loops: 0,
+                    tests: 0,
+                },
+            );
+            9
+        }
+    }
 }
 
 #[unsafe(no_mangle)]

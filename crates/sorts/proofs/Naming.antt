@@ -4,11 +4,11 @@ use mathlib.Core.Path.{◌≡◌, refl, sym, ap, ◌∙◌}
 use mathlib.Core.Bool.{Bool, true, false, false≢true}
 use mathlib.Core.Option.{Option, none, some}
 use mathlib.Core.List.{List}
-use Prim.Native.Nat.{min, ℕ, suc, ◌-◌, ◌≤◌, ◌<◌}
+use Prim.Native.Nat.{ℕ, suc, ◌-◌, ◌≤◌, ◌<◌}
 use native.Mathlib.Decide.{dec_lt}
 use native.Mathlib.Omega.{arith}
 use borrow.Author.Tests.{lt-ltb, le-ltb}
-use lib.ListN.{length, take, drop}
+use lib.ListN.{length}
 use Rattle.std.specs.Prelude.{Option as Place}
 use Rattle.definition.specs.Texts.{txt, same}
 use Rattle.definition.specs.Tokens.{Token, Line, keyword, punct}
@@ -18,7 +18,6 @@ use Rattle.definition.specs.Passes.{label_name, is, named, closer}
 use Rattle.definition.proofs.Bools.{by_test, by_cond}
 use Rattle.sheet.specs.Buffers.{start_at, end_at, text_at, tokens_in, first_of, last_of, line_in}
 use Rattle.sheet.specs.Ranges.{between}
-use Rattle.sheet.proofs.Reading.{range_is}
 use Rattle.outline.specs.Rows.{line_at}
 use Rattle.sorts.specs.Places.{found, first_place}
 use Rattle.sorts.specs.Sorted.{named_at, number_of, numbered, label_number, lines_in}

@@ -1,6 +1,5 @@
 use native.Mathlib.Omega.{arith}
 use mathlib.Core.Path.{◌≡◌, refl, ◌∙◌}
-use Prim.Native.Nat.{◌-◌}
 use Rattle.finish.proofs.Written.{lines_start, lines_turn, lines_end, heads_at}
 use Rattle.finish.proofs.finish.Goals as goal
 

@@ -1,6 +1,5 @@
 -- The lines of the first i rows are written, one more at each turn, each row headed as the caller promises; at the end i is n.
 use mathlib.Core.Path.{◌≡◌}
-use Prim.Native.Nat.{◌-◌, ◌≤◌}
 use lib.ListN.{length}
 use Rattle.room.specs.Room.{sheet_of, write_all, seen_sheet}
 use Rattle.finish.specs.Finishing.{lines_in}

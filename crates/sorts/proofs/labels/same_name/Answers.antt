@@ -1,7 +1,5 @@
 -- A token's text is the range from its start to its end, so comparing the two ranges compares the two texts.
-use mathlib.Core.List.{List}
 use mathlib.Core.Path.{ap, ◌∙◌}
-use Prim.Native.Nat.{ℕ}
 use Rattle.definition.specs.Texts.{same}
 use Rattle.sorts.proofs.Naming.{texts_same}
 use Rattle.sorts.proofs.labels.same_name.Goals as goal

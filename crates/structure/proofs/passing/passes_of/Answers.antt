@@ -1,5 +1,4 @@
 -- Each pass starts from the rows that the one before it left; a refusal ends the run there, else what the third leaves is the answer.
-use mathlib.Core.List.{List}
 use mathlib.Core.Path.{ap, ◌∙◌}
 use Rattle.passes.proofs.Turns.{refused}
 use Rattle.structure.specs.Answers.{Passes}

@@ -2,7 +2,7 @@
 use Rattle.structure.proofs.Counting.{tests_from}
 use Rattle.sorts.specs.Sorted.{lines_in}
 use Rattle.definition.specs.Listing.{tests}
-use Prim.Native.Nat.{◌+◌, ◌-◌, ◌≤◌}
+use Prim.Native.Nat.{◌+◌, ◌≤◌}
 use mathlib.Core.Path.{◌≡◌}
 use Rattle.structure.proofs.writing.count_tests.Given as goal
 
