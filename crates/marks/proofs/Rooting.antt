@@ -42,10 +42,6 @@ use Rattle.names.proofs.Rooted.{rooted}
 use Rattle.sums.specs.Ground.{Ground}
 use Rattle.marks.specs.Reading.{classed, reading, ReadRoots}
 
-pub class_is : (roots l m : List ℕ) (s x : ℕ) → x ≡ at roots s → m ≡ set l x 1 → m ≡ classed roots l s
-unfolding classed
-class_is roots l m s x e p = p ∙ rw e
-
 -- ---- one statement
 ordered_runs : (f order starts : List ℕ) → Ordered f (length order) (length starts) order starts → Runs f order starts
 unfolding padded use_starts

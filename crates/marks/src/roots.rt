@@ -8,10 +8,11 @@ ghost use Rattle.definition.specs.Blocks.{is_save};
 ghost use Rattle.places.specs.Keys.{places_of};
 ghost use Rattle.values.specs.Tables.{table};
 ghost use Rattle.uses.specs.Orders.{Ordered};
-ghost use Rattle.reads.specs.Counts.{visit, slots, between};
+ghost use Rattle.reads.specs.Counts.{visit, slots};
 ghost use Rattle.marks.specs.Reading.{classed, reading, ReadRoots};
 
 use crate::saves::is_save;
+use reads::visit_run;
 use records::contents::{STATEMENTS, size_of};
 use records::owners::is_dead;
 use slices::{get, put};
@@ -28,27 +29,7 @@ fn passed_over(offsets: &[u64], of: &Numbered<'_>, i: u32) -> bool
     is_save(offsets, of, i)
 }
 
-// 1 at the roots of what the nodes from a to b read, whose places begin at `base`.
-fn mark_run(
-    tab: &mut [u32],
-    numbers: &[u32],
-    roots: &[u32],
-    order: &[u32],
-    base: usize,
-    a: u32,
-    b: u32,
-)
-    requires { base < 34359738368 }
-    ensures { tab.new ≡ visit (classed roots.now) tab.old (slots numbers.now base (between order.now a b)) }
-{
-    for j in a..b {
-        let n = get(order, j as usize);
-        let s = get(numbers, base + n as usize);
-        put(tab, get(roots, s as usize) as usize, 1);
-    }
-}
-
-// What statement i reads.
+// 1 at the roots of what statement i reads.
 fn mark_stmt(
     tab: &mut [u32],
     of: &Numbered<'_>,
@@ -68,7 +49,15 @@ fn mark_stmt(
     }
     let a = get(starts, i as usize);
     let b = get(starts, i as usize + 1);
-    mark_run(tab, of.numbers, roots, order, of.places.exprs, a, b);
+    visit_run(
+        tab,
+        of.numbers,
+        order,
+        of.places.exprs,
+        a,
+        b,
+        |t: &mut [u32], n| put(t, get(roots, n) as usize, 1),
+    );
 }
 
 // 1 at the root of each class of which some value is really read.

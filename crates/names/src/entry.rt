@@ -11,10 +11,10 @@ ghost use Rattle.names.specs.Spots.{entry_spots, ticked};
 ghost use Rattle.names.specs.Given.{Numbered, Counted, EntryRead};
 
 use places::places_of;
-use reads::mark_run;
+use reads::visit_run;
 use records::contents::{ARGS, STATEMENTS, size_of};
 use records::owners::{BRANCH, CALL, is_dead, stmt_kind};
-use slices::get;
+use slices::{get, put};
 
 // Does statement i make no parameter: it is dead, or reads every argument register by convention.
 fn passed_over(f: &[u8], i: u32) -> bool
@@ -43,7 +43,15 @@ fn tick_stmt(
     }
     let a = get(starts, i as usize);
     let b = get(starts, i as usize + 1);
-    mark_run(tab, numbers, order, from, a, b, 1);
+    visit_run(
+        tab,
+        numbers,
+        order,
+        from,
+        a,
+        b,
+        |t: &mut [u32], n| put(t, n, 1),
+    );
 }
 
 // 1 for each value that a live statement reads other than by convention.

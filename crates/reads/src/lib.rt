@@ -1,7 +1,7 @@
 // How often live statements read each value, whether a phi does, and which live statement reads it last: tables by value number.
 #![tactic(auto)]
 
-ghost use Rattle.std.specs.Prelude.{◌≡◌, ◌+◌, ◌<◌, length};
+ghost use Rattle.std.specs.Prelude.{◌≡◌, List, ℕ, ◌+◌, ◌<◌, length};
 ghost use Rattle.definition.specs.Edition.{statements};
 ghost use Rattle.definition.specs.Contents.{size};
 ghost use Rattle.values.specs.Tables.{table};
@@ -22,18 +22,29 @@ fn raise(tab: &mut [u32], i: usize)
     }
 }
 
-// At the numbers of the nodes from a to b, whose places begin at `base`.
-fn raise_run(tab: &mut [u32], numbers: &[u32], order: &[u32], base: usize, a: u32, b: u32)
-    requires { base < 34359738368 }
-    ensures { tab.new ≡ visit raised tab.old (slots numbers.now base (between order.now a b)) }
+// The step at the numbers of the nodes from a to b, whose places begin at `base`.
+pub fn visit_run<F: Fn(&mut [u32], usize)>(
+    tab: &mut [u32],
+    numbers: &[u32],
+    order: &[u32],
+    base: usize,
+    a: u32,
+    b: u32,
+    step: F,
+)
+    requires base_bound { base < 34359738368 }
+    requires callable { F.IsAlwaysCallable step }
+    ensures { (g : List ℕ → ℕ → List ℕ) → ((t : _) (i : ℕ) (u : _) → F.post step t i tt u → u.now ≡ g t.now i)
+        → tab.new ≡ visit g tab.old (slots numbers.now base (between order.now a b)) }
 {
     for j in a..b {
         let n = get(order, j as usize);
-        raise(tab, get(numbers, base + n as usize) as usize);
+        step(tab, get(numbers, base + n as usize) as usize);
     }
 }
 
-fn raise_stmt(
+// The step at the numbers of what statement i reads, where it is live.
+fn visit_stmt<F: Fn(&mut [u32], usize)>(
     tab: &mut [u32],
     f: &[u8],
     numbers: &[u32],
@@ -41,17 +52,20 @@ fn raise_stmt(
     starts: &[u32],
     base: usize,
     i: u32,
+    step: F,
 )
     requires runs { Runs f.now order.now starts.now }
     requires base_bound { (base < 34359738368) × (i < size f.now statements) }
-    ensures { tab.new ≡ visit raised tab.old (slots numbers.now base (live_uses f.now i)) }
+    requires callable { F.IsAlwaysCallable step }
+    ensures { (g : List ℕ → ℕ → List ℕ) → ((t : _) (n : ℕ) (u : _) → F.post step t n tt u → u.now ≡ g t.now n)
+        → tab.new ≡ visit g tab.old (slots numbers.now base (live_uses f.now i)) }
 {
     if is_dead(f, i) {
         return;
     }
     let k = i as usize;
     let a = get(starts, k);
-    raise_run(tab, numbers, order, base, a, get(starts, k + 1));
+    visit_run(tab, numbers, order, base, a, get(starts, k + 1), step);
 }
 
 // How often live statements read each value.
@@ -64,48 +78,8 @@ pub fn live_reads(tab: &mut [u32], f: &[u8], numbers: &[u32], order: &[u32], sta
     let base = p.exprs;
     let n = size_of(f, STATEMENTS);
     for i in 0..n {
-        raise_stmt(tab, f, numbers, order, starts, base, i);
+        visit_stmt(tab, f, numbers, order, starts, base, i, raise);
     }
-}
-
-// x at the numbers of the nodes from a to b.
-pub fn mark_run(
-    tab: &mut [u32],
-    numbers: &[u32],
-    order: &[u32],
-    base: usize,
-    a: u32,
-    b: u32,
-    x: u32,
-)
-    requires { base < 34359738368 }
-    ensures { tab.new ≡ visit (placed x) tab.old (slots numbers.now base (between order.now a b)) }
-{
-    for j in a..b {
-        let n = get(order, j as usize);
-        put(tab, get(numbers, base + n as usize) as usize, x);
-    }
-}
-
-fn mark_stmt(
-    tab: &mut [u32],
-    f: &[u8],
-    numbers: &[u32],
-    order: &[u32],
-    starts: &[u32],
-    base: usize,
-    i: u32,
-)
-    requires runs { Runs f.now order.now starts.now }
-    requires base_bound { (base < 34359738368) × (i < size f.now statements) }
-    ensures { tab.new ≡ visit (placed (i + 1)) tab.old (slots numbers.now base (live_uses f.now i)) }
-{
-    if is_dead(f, i) {
-        return;
-    }
-    let k = i as usize;
-    let a = get(starts, k);
-    mark_run(tab, numbers, order, base, a, get(starts, k + 1), i + 1);
 }
 
 // 1 more than the last live statement that reads each value, 0 where none does.
@@ -118,7 +92,17 @@ pub fn readers(tab: &mut [u32], f: &[u8], numbers: &[u32], order: &[u32], starts
     let base = p.exprs;
     let n = size_of(f, STATEMENTS);
     for i in 0..n {
-        mark_stmt(tab, f, numbers, order, starts, base, i);
+        let x = i + 1;
+        visit_stmt(
+            tab,
+            f,
+            numbers,
+            order,
+            starts,
+            base,
+            i,
+            |t: &mut [u32], n| put(t, n, x),
+        );
     }
 }
 
