@@ -41,6 +41,15 @@ four_read (a ∷ b ∷ []) h = absurd (omega arith)
 four_read (a ∷ b ∷ c ∷ []) h = absurd (omega arith)
 four_read (a ∷ b ∷ c ∷ d ∷ r) h = omega arith
 
+pub word_read : (f : List ℕ) (i : ℕ) → i + 4 ≤ length f
+    → from_le_bytes w32 (get_or f i 0 ∷ get_or f (i + 1) 0 ∷ get_or f (i + 2) 0 ∷ get_or f (i + 3) 0 ∷ []) ≡ word f i
+unfolding word
+word_read f i h =
+    let l = length-drop i f in
+    let at = λ (k : ℕ). get_or-drop i f k 0 in
+    let z : i + 0 ≡ i = omega arith in
+    rw (four_read (drop i f) (omega arith), at 0, at 1, at 2, at 3, z)
+
 -- of bytes
 pub word_small : (f : List ℕ) → ((k : ℕ) → Fits w8 (get_or f k 0)) → (i : ℕ) → word f i < 4294967296
 unfolding word

@@ -16,8 +16,8 @@ fn rest(s: &[u8], i: usize) -> &[u8]
 pub fn word_at(f: &[u8], i: usize) -> u32
     ensures { result ≡ word f.now i }
 {
-    match rest(f, i) {
-        [a, b, c, d, ..] => u32::from_le_bytes([*a, *b, *c, *d]),
+    match f.len().checked_sub(4) {
+        Some(last) if i <= last => u32::from_le_bytes([f[i], f[i + 1], f[i + 2], f[i + 3]]),
         _ => 0,
     }
 }

@@ -1,13 +1,16 @@
--- Four bytes that are left are the number; where fewer are left, it is 0.
-use Rattle.words.proofs.Laws.{four_short, four_read}
-use Rattle.definition.specs.Words.{word, four}
-use mathlib.Core.Path.{sym, ap, ◌∙◌}
+-- Inside the file the four bytes are read; outside the answer is 0, as the definition has it.
+use Rattle.words.proofs.Laws.{word_out, word_read}
+use mathlib.Core.Path.{◌∙◌}
+use lib.ListN.{length}
+use native.Mathlib.Omega.{arith}
+use Prim.Native.Nat.{◌≤◌}
 use Rattle.words.proofs.word_at.Goals as goal
 
-pub returns-in_default : goal.returns-in_default
-unfolding word
-returns-in_default c = sym (ap four (sym c.rest.ensures) ∙ four_short c.rest.result.now c.in_default.len_below)
+pub returns-in-Some : goal.returns-in-Some
+returns-in-Some c = let last = c.in-Some.ensures in c.from_le_bytes.ensures ∙ word_read c.args.f.now c.args.i (omega arith)
 
-pub returns-in-len4-up : goal.returns-in-len4-up
-unfolding word
-returns-in-len4-up c = c.from_le_bytes.ensures ∙ sym (ap four (sym c.rest.ensures) ∙ four_read c.rest.result.now c.in-len4-up.len_at_least)
+pub returns-in_default : goal.returns-in_default
+returns-in_default c = word_out c.args.f.now c.args.i (omega arith)
+
+pub returns-in_default-2 : goal.returns-in_default-2
+returns-in_default-2 c = let short : 4 ≤ length c.args.f.now → ⊥ = c.in_default.ensures in word_out c.args.f.now c.args.i (omega arith)
