@@ -56,8 +56,7 @@ fn items_named(f: &[u8], from: u32, n: u32) -> bool
 fn loose_named_at(s: Statement) -> bool
     ensures { result ≡ all named (call_returns s.entry.f.now s.entry.i ++ item_values s.entry.f.now s.entry.i) }
 {
-    defined_named(returned_by(s.f, s.i))
-        && items_named(s.f, s.first_value(), value_items(s.f, s.i))
+    defined_named(returned_by(s.f, s.i)) && items_named(s.f, s.first_value(), value_items(s.f, s.i))
 }
 
 fn loose_named(f: &[u8]) -> bool

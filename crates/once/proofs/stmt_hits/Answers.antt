@@ -1,6 +1,5 @@
 -- Hits of what is assigned, what is returned and the items add up; the first two are 1 at most, the third at most the items.
-use mathlib.Core.Path.{refl, ap, ap₂, sym, ◌∙◌}
-use Prim.Native.Nat.{◌+◌}
+use mathlib.Core.Path.{refl, ap, ap₂, ◌∙◌}
 use native.Mathlib.Omega.{arith}
 use Rattle.definition.specs.Values.{eqv}
 use Rattle.definition.specs.Lists.{count}
