@@ -1,5 +1,5 @@
 // The values pushed for a call, with `, ` between them.
-ghost use Rattle.std.specs.Prelude.{◌≡◌, ◌||◌};
+ghost use Rattle.std.specs.Prelude.{◌≡◌};
 ghost use Rattle.definition.specs.Edition.{Edition};
 ghost use Rattle.definition.specs.Contents.{text as text_of};
 ghost use Rattle.definition.specs.Lower.{comma_list};

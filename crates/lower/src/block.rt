@@ -1,5 +1,5 @@
 // A block: its label, its statements, the goto that closes it.
-ghost use Rattle.std.specs.Prelude.{◌≡◌, [], ◌+◌, ◌<◌, length};
+ghost use Rattle.std.specs.Prelude.{◌≡◌, [], ◌+◌, ◌<◌};
 ghost use Rattle.definition.specs.Edition.{Edition, blocks};
 ghost use Rattle.definition.specs.Contents.{size, text as text_of};
 ghost use Rattle.definition.specs.Owners.{block_stmts, first_stmt};

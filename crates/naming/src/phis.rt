@@ -1,11 +1,9 @@
 // Live phis with their inputs, in order.
-ghost use Rattle.std.specs.Prelude.{◌≡◌, true, ◌+◌, ◌-◌, ◌≤◌, ◌<◌};
+ghost use Rattle.std.specs.Prelude.{◌≡◌, ◌+◌, ◌-◌, ◌≤◌, ◌<◌};
 ghost use Rattle.definition.specs.Edition.{phis};
-ghost use Rattle.definition.specs.Lists.{gather, range, at};
+ghost use Rattle.definition.specs.Lists.{gather, range};
 ghost use Rattle.definition.specs.Contents.{size};
 ghost use Rattle.definition.specs.Owners.{phi_inputs, first_input};
-ghost use Rattle.definition.specs.Shape.{owned};
-ghost use Rattle.places.specs.Keys.{places_of};
 ghost use Rattle.names.specs.Spots.{known, state};
 ghost use Rattle.naming.specs.Walk.{walked, phi_spots};
 ghost use Rattle.naming.specs.Given.{Went, standing};

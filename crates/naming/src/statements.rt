@@ -1,14 +1,13 @@
 // What live statements define and read, in order.
 ghost use Rattle.std.specs.Prelude.{◌≡◌, map, ◌-◌, ◌≤◌, ◌<◌};
 ghost use Rattle.definition.specs.Edition.{statements};
-ghost use Rattle.definition.specs.Lists.{gather, range, at};
+ghost use Rattle.definition.specs.Lists.{gather, range};
 ghost use Rattle.definition.specs.Contents.{size};
 ghost use Rattle.definition.specs.Owners.{first_item};
 ghost use Rattle.defined.specs.Defined.{list_of};
-ghost use Rattle.places.specs.Keys.{places_of};
 ghost use Rattle.names.specs.Spots.{spot, known, state};
 ghost use Rattle.naming.specs.Walk.{walked, field_spots, stmt_spots};
-ghost use Rattle.naming.specs.Given.{Laid, Went, standing};
+ghost use Rattle.naming.specs.Given.{Went, standing};
 
 use crate::position::Walk;
 use crate::runs::{Run, name_run};

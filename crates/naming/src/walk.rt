@@ -1,14 +1,11 @@
 // The walk over the blocks: a block's phis, then its statements.
-ghost use Rattle.std.specs.Prelude.{◌≡◌, true, ◌+◌, ◌<◌, length};
+ghost use Rattle.std.specs.Prelude.{◌≡◌, ◌+◌, ◌<◌};
 ghost use Rattle.definition.specs.Edition.{blocks};
 ghost use Rattle.definition.specs.Contents.{size};
 ghost use Rattle.definition.specs.Owners.{first_phi, first_stmt};
-ghost use Rattle.definition.specs.Shape.{owned};
-ghost use Rattle.definition.specs.Lists.{at};
-ghost use Rattle.uses.specs.Orders.{Ordered};
 ghost use Rattle.names.specs.Spots.{known, state};
 ghost use Rattle.naming.specs.Walk.{walked, block_spots, spots};
-ghost use Rattle.naming.specs.Given.{Laid, Went, standing};
+ghost use Rattle.naming.specs.Given.{Went, standing};
 
 use crate::phis::name_phis;
 use crate::position::Walk;

@@ -5,7 +5,7 @@ ghost use Rattle.std.specs.Prelude.{◌≡◌, List, ℕ, ◌+◌, ◌<◌, leng
 ghost use Rattle.definition.specs.Edition.{statements};
 ghost use Rattle.definition.specs.Contents.{size};
 ghost use Rattle.values.specs.Tables.{table};
-ghost use Rattle.reads.specs.Counts.{raised, placed, visit, slots, between, live_uses, last_reader, read_by, Numbers, Runs, LiveReads, PhiReads};
+ghost use Rattle.reads.specs.Counts.{raised, visit, slots, between, live_uses, last_reader, read_by, Numbers, Runs, LiveReads, PhiReads};
 
 use places::places_of;
 use records::contents::{INPUTS, STATEMENTS, size_of};

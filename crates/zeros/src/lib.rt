@@ -2,7 +2,6 @@
 #![tactic(auto)]
 
 ghost use Rattle.std.specs.Prelude.{◌≡◌, length, replicate};
-ghost use Rattle.std.proofs.Common.{rules};
 
 // A number of a table: 0 is what stands where nothing is said.
 pub trait Zero: Copy {
