@@ -25,6 +25,7 @@ fn one_more(x: u32) -> u32
     }
 }
 
+// A number past the table is passed over. The entry is written by its index, which tells what the table holds then; get_mut does not.
 fn mention(table: &mut [u32], e: u32)
     ensures { table.new ≡ mentioned table.old e }
 {
