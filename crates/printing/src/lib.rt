@@ -2,7 +2,6 @@
 #![tactic(auto)]
 
 use digits::hex_upper;
-use leaf::Wrote;
 use lent::answer::Answer;
 use lister::sorkhelaw_list;
 use sheet::tokens::start_at;
@@ -23,10 +22,7 @@ fn say_number<W: Write>(out: &mut W, text: &[u8], n: u64) -> io::Result<()> {
 
 // The bytes from a place to another, where they are there.
 fn say_between<W: Write>(out: &mut W, text: &[u8], from: usize, to: usize) -> io::Result<()> {
-    if to < from {
-        return Ok(());
-    }
-    if text.len() < to {
+    if to < from || text.len() < to {
         return Ok(());
     }
     say(out, &text[from..to])
@@ -34,7 +30,7 @@ fn say_between<W: Write>(out: &mut W, text: &[u8], from: usize, to: usize) -> io
 
 fn say_address<W: Write>(out: &mut W, a: u64) -> io::Result<()> {
     let mut digits = [0u8; 16];
-    if let Wrote::Bytes(n) = hex_upper(&mut digits, a) {
+    if let Ok(n) = hex_upper(&mut digits, a) {
         say_between(out, &digits, 0, n)?;
     }
     Ok(())
@@ -85,7 +81,7 @@ fn say_listing<W: Write>(
 ) -> io::Result<()> {
     say_header(out, a)?;
     if a.lines <= lines.len() / ROW {
-        say_lines(out, &lines[0..ROW * a.lines], tokens, text)?;
+        say_lines(out, &lines[..ROW * a.lines], tokens, text)?;
     }
     Ok(())
 }

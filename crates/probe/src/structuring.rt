@@ -17,12 +17,14 @@ fn put_counts(counts: &mut [u64], c: Counts)
     if counts.len() < COUNTS {
         return;
     }
-    counts[0] = c.lines as u64;
-    counts[1] = c.tokens as u64;
-    counts[2] = c.bytes as u64;
-    counts[3] = c.ifs as u64;
-    counts[4] = c.loops as u64;
-    counts[5] = c.tests as u64;
+    counts[..COUNTS].copy_from_slice(&[
+        c.lines as u64,
+        c.tokens as u64,
+        c.bytes as u64,
+        c.ifs as u64,
+        c.loops as u64,
+        c.tests as u64,
+    ]);
 }
 
 // 0, or 9, with zeros for counts.
