@@ -11,7 +11,7 @@ ghost use Rattle.naming.specs.Walk.{walked, phi_spots};
 ghost use Rattle.naming.specs.Given.{Went, standing};
 
 use crate::position::Walk;
-use crate::runs::{Run, name_run};
+use crate::runs::{input_mention, name_run};
 use defined::value::{RSP, phi_value};
 use names::key::name_key;
 use places::Places;
@@ -26,7 +26,6 @@ fn name_phi(
     numbers: &[u32],
     roots: &[u32],
     away: &[u32],
-    order: &[u32],
     at: Places,
     i: u32,
     a: u32,
@@ -50,13 +49,10 @@ fn name_phi(
     name_run(
         names,
         seen,
-        f,
         numbers,
         roots,
         away,
-        order,
-        at,
-        Run::Inputs(i),
+        |k| input_mention(f, at, i, k),
         a,
         b,
         next,
@@ -71,7 +67,6 @@ pub fn name_phis(
     numbers: &[u32],
     roots: &[u32],
     away: &[u32],
-    order: &[u32],
     at: Places,
     b: u32,
     w: Walk,
@@ -85,9 +80,7 @@ pub fn name_phis(
     let mut input = w.input;
     let mut next = w.next;
     for i in w.phi..b {
-        next = name_phi(
-            names, seen, f, numbers, roots, away, order, at, i, input, next,
-        );
+        next = name_phi(names, seen, f, numbers, roots, away, at, i, input, next);
         input += phi_inputs(f, i);
     }
     Walk {

@@ -11,7 +11,7 @@ ghost use Rattle.naming.specs.Walk.{walked, field_spots, stmt_spots};
 ghost use Rattle.naming.specs.Given.{Laid, Went, standing};
 
 use crate::position::Walk;
-use crate::runs::{Run, name_run};
+use crate::runs::{item_mention, name_run, use_mention};
 use defined::value::{Defined, assigned_by, next_item, returned_by};
 use names::key::name_key;
 use places::Places;
@@ -94,13 +94,10 @@ fn name_stmt(
     let next = name_run(
         names,
         seen,
-        f,
         numbers,
         roots,
         away,
-        order,
-        at,
-        Run::Items,
+        |k| item_mention(f, at, k),
         a,
         b,
         next,
@@ -110,13 +107,10 @@ fn name_stmt(
     name_run(
         names,
         seen,
-        f,
         numbers,
         roots,
         away,
-        order,
-        at,
-        Run::Uses,
+        |k| use_mention(f, order, at, k),
         x,
         y,
         next,

@@ -38,7 +38,7 @@ fn name_block(
         (block_spots f.now b) }
 {
     let e = w.phi + block_phis(f, b);
-    let v = name_phis(names, seen, f, numbers, roots, away, order, at, e, w);
+    let v = name_phis(names, seen, f, numbers, roots, away, at, e, w);
     let e = v.stmt + block_stmts(f, b);
     name_stmts(
         names, seen, f, numbers, roots, away, order, starts, at, e, v,

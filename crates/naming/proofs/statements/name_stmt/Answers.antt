@@ -5,8 +5,11 @@ use Rattle.definition.specs.Edition.{statements}
 use Rattle.records.proofs.Items.{size_small}
 use Rattle.defined.proofs.Values.{exprs_small, items_small}
 use Rattle.places.specs.declared.Places.{Places}
-use Rattle.naming.specs.Walk.{walked, run_spot}
+use Rattle.naming.specs.Walk.{walked, item_spot}
+use Rattle.std.proofs.Common.{rules}
 use Rattle.naming.proofs.Walking.{stmt_dead, stmt_live}
+use Rattle.names.specs.Spots.{use_spot}
+use Rattle.definition.specs.Lists.{at}
 use Rattle.names.proofs.Reading.{uses_run}
 use Rattle.naming.proofs.statements.name_stmt.Goals as goal
 
@@ -22,9 +25,6 @@ overflow_add-a c = omega (arith, exprs_small c.args.f.now c.args.w.stmt c.args.w
 pub overflow_add-b : goal.overflow_add-b
 overflow_add-b c = omega (arith, items_small c.args.f.now c.args.w.stmt c.args.w.item c.expr_items.result c.type_inv.f (c.requires.laid.own, c.requires.stmt_bound.0, c.requires.stmt_bound.1) c.expr_items.ensures c.value_items.result c.value_items.ensures)
 
-pub name_run-next-requires : goal.name_run-next-requires
-name_run-next-requires c = c.requires.laid.are
-
 pub overflow_cast-i : goal.overflow_cast-i
 overflow_cast-i c = omega (arith, size_small c.args.f.now c.type_inv.f statements, c.requires.stmt_bound.0)
 
@@ -34,9 +34,5 @@ overflow_cast-i-2 c = omega (arith, size_small c.args.f.now c.type_inv.f stateme
 pub overflow_add-i : goal.overflow_add-i
 overflow_add-i c = omega (arith, size_small c.args.f.now c.type_inv.f statements, c.requires.stmt_bound.0)
 
-pub name_run-requires : goal.name_run-requires
-name_run-requires c = c.requires.laid.are
-
 pub returns : goal.returns
-unfolding run_spot
-returns c = stmt_live _ _ _ _ _ c.is_dead.ensures c.if-is_dead.false _ _ _ _ _ _ c.requires.stmt_bound.1 c.expr_items.ensures c.value_items.ensures c.name_fields-next.ensures c.name_run-next.ensures (c.name_run.ensures ∙ ap (walked _ _) (uses_run c.args.f.now c.args.order.now c.args.starts.now _ _ c.requires.laid.flat c.args.w.stmt _ _ c.requires.stmt_bound.0 c.get-x.ensures c.get-y.ensures))
+returns c = stmt_live _ _ _ _ _ c.is_dead.ensures c.if-is_dead.false _ _ _ _ _ _ c.requires.stmt_bound.1 c.expr_items.ensures c.value_items.ensures c.name_fields-next.ensures (c.name_run-next.ensures (item_spot c.args.f.now) (λ k m p. search rules)) (c.name_run.ensures (λ k. use_spot c.args.f.now (at c.args.order.now k)) (λ k m p. search rules) ∙ ap (walked _ _) (uses_run c.args.f.now c.args.order.now c.args.starts.now _ _ c.requires.laid.flat c.args.w.stmt _ _ c.requires.stmt_bound.0 c.get-x.ensures c.get-y.ensures))
