@@ -19,9 +19,7 @@ use Rattle.places.specs.declared.Places.{Places}
 use Rattle.places.specs.Keys.{places_of}
 use Rattle.uses.specs.Uses.{use_value}
 use Rattle.names.specs.Spots.{Spot, Known, State, spot, named, use_spot, use_spots}
-use Rattle.naming.specs.declared.runs.Run.{Run}
-use Rattle.naming.specs.declared.runs.Run.TheVariants.{Inputs, Items, Uses}
-use Rattle.naming.specs.Walk.{walked, input_spot, phi_spots, field_spots, item_spot, item_spots, stmt_spots, run_spot}
+use Rattle.naming.specs.Walk.{walked, input_spot, phi_spots, field_spots, item_spot, item_spots, stmt_spots}
 
 module _ (K : Known) where
   -- one spot before others, and several
@@ -34,18 +32,18 @@ module _ (K : Known) where
   walk_more = run_then (walked K) (named K) (λ S. refl) (λ S x xs. refl)
 
 -- ---- number k of a run, as it is read
-module _ (f order : List ℕ) (P : Places) (run : Run) (k : ℕ) (places : P ≡ places_of f) where
-  pub input_spot_lem : (i reg ver : ℕ) → run ≡ Inputs i → reg ≡ phi_word f i 0 → ver ≡ input_at f k → spot (P.inputs + k) (value reg ver) ≡ run_spot f order run k
-  unfolding run_spot input_spot
-  input_spot_lem i reg ver e q r = rw (e, places, q, r)
+module _ (f order : List ℕ) (P : Places) (k : ℕ) (places : P ≡ places_of f) where
+  pub input_spot_lem : (i reg ver : ℕ) → reg ≡ phi_word f i 0 → ver ≡ input_at f k → spot (P.inputs + k) (value reg ver) ≡ input_spot f i k
+  unfolding input_spot
+  input_spot_lem i reg ver q r = rw (places, q, r)
 
-  pub item_spot_lem : (v : Value) → run ≡ Items → v ≡ item_value f k → spot (P.items + k) v ≡ run_spot f order run k
-  unfolding run_spot item_spot
-  item_spot_lem v e q = rw (e, places, q)
+  pub item_spot_lem : (v : Value) → v ≡ item_value f k → spot (P.items + k) v ≡ item_spot f k
+  unfolding item_spot
+  item_spot_lem v q = rw (places, q)
 
-  pub use_spot_lem : (n reg ver : ℕ) → run ≡ Uses → n ≡ at order k → reg ≡ expr_word f n 1 → ver ≡ expr_word f n 2 → spot (P.exprs + n) (value reg ver) ≡ run_spot f order run k
-  unfolding run_spot use_spot use_value
-  use_spot_lem n reg ver e a q r = rw (e, places, q, r, a)
+  pub use_spot_lem : (n reg ver : ℕ) → n ≡ at order k → reg ≡ expr_word f n 1 → ver ≡ expr_word f n 2 → spot (P.exprs + n) (value reg ver) ≡ use_spot f (at order k)
+  unfolding use_spot use_value
+  use_spot_lem n reg ver a q r = rw (places, q, r, a)
 
 -- ---- returns
 module _ (K : Known) (p : ℕ) (S : State) (d : Option Value') where

@@ -9,9 +9,7 @@ use Rattle.definition.specs.Meaning.{phi_value, assigned, call_returns}
 use Rattle.definition.specs.Read.{marked}
 use Rattle.defined.specs.Defined.{item_value}
 use Rattle.places.specs.Keys.{places_of}
-use Rattle.names.specs.Spots.{Spot, spot, Known, State, named, use_spot, use_spots}
-use Rattle.naming.specs.declared.runs.Run.{Run}
-use Rattle.naming.specs.declared.runs.Run.TheVariants.{Inputs, Items, Uses}
+use Rattle.names.specs.Spots.{Spot, spot, Known, State, named, use_spots}
 
 -- all spots, one behind the other
 unfoldable pub walked : Known → State → List Spot → State
@@ -36,12 +34,6 @@ item_spot f k = spot ((places_of f).items + k) (item_value f k)
 
 unfoldable pub item_spots : List ℕ → ℕ → List Spot
 item_spots f i = map (item_spot f) (range (first_item f i + expr_items f i) (value_items f i))
-
--- number k of a run, where `order` has the nodes that are read
-unfoldable pub run_spot : List ℕ → List ℕ → Run → ℕ → Spot
-run_spot f order (Inputs i) k = input_spot f i k
-run_spot f order Items k = item_spot f k
-run_spot f order Uses k = use_spot f (at order k)
 
 -- a live statement: definitions, then reads
 unfoldable pub stmt_spots : List ℕ → ℕ → List Spot

@@ -9,7 +9,7 @@ ghost use Rattle.naming.specs.Walk.{walked, phi_spots};
 ghost use Rattle.naming.specs.Given.{Went, standing};
 
 use crate::position::Walk;
-use crate::runs::{Run, name_run};
+use crate::runs::{input_mention, name_run};
 use crate::tables::Tables;
 use defined::value::{RSP, phi_value};
 use names::key::name_key;
@@ -33,7 +33,7 @@ fn name_phi(names: &mut [u32], seen: &mut [u32], of: &Tables<'_>, i: u32, a: u32
     let p = of.at.phis + i as usize;
     let next = name_key(names, seen, of.numbers, of.roots, of.away, p, v, next);
     let b = a + phi_inputs(of.f, i);
-    name_run(names, seen, of, Run::Inputs(i), a, b, next)
+    name_run(names, seen, of, |k| input_mention(of, i, k), a, b, next)
 }
 
 // The next phis, up to b.

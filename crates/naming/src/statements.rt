@@ -10,7 +10,7 @@ ghost use Rattle.naming.specs.Walk.{walked, field_spots, stmt_spots};
 ghost use Rattle.naming.specs.Given.{Went, standing};
 
 use crate::position::Walk;
-use crate::runs::{Run, name_run};
+use crate::runs::{item_mention, name_run, use_mention};
 use crate::tables::Tables;
 use defined::value::{Value, assigned_by, next_item, returned_by};
 use names::key::name_key;
@@ -65,10 +65,10 @@ fn name_stmt(names: &mut [u32], seen: &mut [u32], of: &Tables<'_>, w: Walk) -> u
     let next = name_fields(names, seen, of, i, next);
     let a = first + expr_items(of.f, i);
     let b = a + value_items(of.f, i);
-    let next = name_run(names, seen, of, Run::Items, a, b, next);
+    let next = name_run(names, seen, of, |k| item_mention(of, k), a, b, next);
     let x = get(of.starts, i as usize);
     let y = get(of.starts, i as usize + 1);
-    name_run(names, seen, of, Run::Uses, x, y, next)
+    name_run(names, seen, of, |k| use_mention(of, k), x, y, next)
 }
 
 // The next statements, up to b.

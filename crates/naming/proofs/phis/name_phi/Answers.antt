@@ -1,5 +1,6 @@
 -- A phi of RSP and a dead one name nothing; any other names itself, then its inputs, which begin where the contract says.
-use Rattle.naming.specs.Walk.{run_spot}
+use Rattle.naming.specs.Walk.{input_spot}
+use Rattle.std.proofs.Common.{rules}
 use native.Mathlib.Omega.{arith}
 use mathlib.Core.Path.{ap}
 use Rattle.places.specs.declared.Places.{Places}
@@ -17,5 +18,4 @@ pub overflow_add-p : goal.overflow_add-p
 overflow_add-p c = omega (arith, phis_small c.args.of.now.f.now c.args.of.now.bytes, ap (λ (p : Places). p.phis) c.args.of.now.laid.are)
 
 pub returns : goal.returns
-unfolding run_spot
-returns c = phi_live _ _ _ _ _ _ c.phi_value-v.ensures c.if-v-eq-RSP.false _ c.phi_word.ensures c.if-phi_word-eq1.false _ _ _ _ _ c.args.of.now.laid.are c.requires.0 c.phi_inputs.ensures c.name_key-next.ensures c.name_run.ensures
+returns c = phi_live _ _ _ _ _ _ c.phi_value-v.ensures c.if-v-eq-RSP.false _ c.phi_word.ensures c.if-phi_word-eq1.false _ _ _ _ _ c.args.of.now.laid.are c.requires.0 c.phi_inputs.ensures c.name_key-next.ensures (c.name_run.ensures (input_spot c.args.of.now.f.now c.args.i) (λ k m p. search rules))

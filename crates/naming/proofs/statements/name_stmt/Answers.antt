@@ -5,8 +5,11 @@ use Rattle.definition.specs.Edition.{statements}
 use Rattle.records.proofs.Items.{size_small}
 use Rattle.defined.proofs.Values.{exprs_small, items_small}
 use Rattle.places.specs.declared.Places.{Places}
-use Rattle.naming.specs.Walk.{walked, run_spot}
+use Rattle.naming.specs.Walk.{walked, item_spot}
+use Rattle.std.proofs.Common.{rules}
 use Rattle.naming.proofs.Walking.{stmt_dead, stmt_live}
+use Rattle.names.specs.Spots.{use_spot}
+use Rattle.definition.specs.Lists.{at}
 use Rattle.names.proofs.Reading.{uses_run}
 use Rattle.naming.proofs.statements.name_stmt.Goals as goal
 
@@ -29,5 +32,4 @@ pub overflow_add-i : goal.overflow_add-i
 overflow_add-i c = omega (arith, size_small c.args.of.now.f.now c.args.of.now.bytes statements, c.requires.0)
 
 pub returns : goal.returns
-unfolding run_spot
-returns c = stmt_live _ _ _ _ _ c.is_dead.ensures c.if-is_dead.false _ _ _ _ _ _ c.requires.1 c.expr_items.ensures c.value_items.ensures c.name_fields-next.ensures c.name_run-next.ensures (c.name_run.ensures ∙ ap (walked _ _) (uses_run c.args.of.now.f.now c.args.of.now.order.now c.args.of.now.starts.now _ _ c.args.of.now.laid.flat c.args.w.stmt _ _ c.requires.0 c.get-x.ensures c.get-y.ensures))
+returns c = stmt_live _ _ _ _ _ c.is_dead.ensures c.if-is_dead.false _ _ _ _ _ _ c.requires.1 c.expr_items.ensures c.value_items.ensures c.name_fields-next.ensures (c.name_run-next.ensures (item_spot c.args.of.now.f.now) (λ k m p. search rules)) (c.name_run.ensures (λ k. use_spot c.args.of.now.f.now (at c.args.of.now.order.now k)) (λ k m p. search rules) ∙ ap (walked _ _) (uses_run c.args.of.now.f.now c.args.of.now.order.now c.args.of.now.starts.now _ _ c.args.of.now.laid.flat c.args.w.stmt _ _ c.requires.0 c.get-x.ensures c.get-y.ensures))
