@@ -14,7 +14,7 @@ use crate::stmt::stmt;
 use calls::ends::last_leaves;
 use calls::pushes::from_behind;
 use calls::sets::set_behind;
-use conditions::operands::{Found, operands};
+use conditions::operands::{Pair, operands};
 use defined::value::next_item;
 use gotos::closing::closing;
 use gotos::label::label;
@@ -49,7 +49,7 @@ fn stmts(
     marks: &[u32],
     block: u32,
     end: u32,
-    setter: Found,
+    setter: Option<Pair>,
 ) -> Walk
     requires known { Known f.now t places numbers.now offs.now placed.now names.now live.now phi.now roots.now marks.now }
     requires block_bound { (block < size f.now blocks) × (Stands f.now (first_stmt f.now block) w) × (end ≡ first_stmt f.now block + block_stmts f.now block) }
@@ -62,8 +62,7 @@ fn stmts(
     let mut item = w.item;
     let mut from = w.stmt;
     let mut count = 0;
-    let mut i = w.stmt;
-    while i < end {
+    for i in w.stmt..end {
         out = stmt(
             lines, tokens, text, out, f, t, places, numbers, offs, placed, names, live, phi, roots,
             marks, block, i, end, item, from, count, setter,
@@ -71,12 +70,11 @@ fn stmts(
         item = next_item(f, i, item);
         from = from_behind(f, i, from);
         count = set_behind(f, i, count);
-        i += 1;
     }
     Walk {
-        out: out,
+        out,
         stmt: end,
-        item: item,
+        item,
     }
 }
 
@@ -111,11 +109,7 @@ pub fn lower_block(
     let leaves = last_leaves(f, first, n);
     let setter = operands(f, t, first, n);
     let out = label(lines, tokens, text, w.out, f, labels, block);
-    let begun = Walk {
-        out: out,
-        stmt: first,
-        item: w.item,
-    };
+    let begun = Walk { out, ..w };
     let v = stmts(
         lines,
         tokens,
@@ -137,9 +131,5 @@ pub fn lower_block(
         setter,
     );
     let out = closing(lines, tokens, text, v.out, f, block, leaves);
-    Walk {
-        out: out,
-        stmt: v.stmt,
-        item: v.item,
-    }
+    Walk { out, ..v }
 }

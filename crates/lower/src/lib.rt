@@ -43,19 +43,16 @@ pub fn lower(
 {
     let places = places_of(f);
     let n = size_of(f, BLOCKS);
-    let out = Out::start();
     let mut w = Walk {
-        out: out,
+        out: Out::start(),
         stmt: 0,
         item: 0,
     };
-    let mut b = 0;
-    while b < n {
+    for b in 0..n {
         w = lower_block(
             lines, tokens, text, w, f, t, places, numbers, offs, placed, names, live, phi, roots,
             marks, labels, b,
         );
-        b += 1;
     }
     w.out
 }

@@ -12,7 +12,7 @@ ghost use Rattle.conditions.specs.Pairs.{Set};
 ghost use Rattle.lower.specs.Given.{Known, StmtAt};
 
 use calling::call::call;
-use conditions::operands::Found;
+use conditions::operands::Pair;
 use jumps::branch::branch;
 use places::Places;
 use plain::assign::assign;
@@ -45,7 +45,7 @@ pub fn stmt(
     item: u32,
     from: u32,
     count: u32,
-    setter: Found,
+    setter: Option<Pair>,
 ) -> Out
     requires known { Known f.now t places numbers.now offs.now placed.now names.now live.now phi.now roots.now marks.now }
     requires stmt_at { StmtAt f.now block i end item }
@@ -54,9 +54,7 @@ pub fn stmt(
         → seen_sheet (sheet_of lines.new tokens.new text.new result)
         ≡ seen_sheet (write_all (sheet_of lines.old tokens.old text.old out) (lowered E f.now (here_at E f.now block) (pending E f.now from i) set end i)) }
 {
-    let s = stmt_at(f, i, item);
-    let kind = s.kind;
-    match kind {
+    match stmt_at(f, i, item).kind {
         Kind::Assign(_) => {
             assign(
                 lines, tokens, text, out, f, t, places, numbers, offs, placed, names, roots, marks,
