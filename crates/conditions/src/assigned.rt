@@ -23,7 +23,7 @@ pub fn assigning(f: &[u8], first: u32, count: u32, i: u32) -> u32
     requires count_value { any (assigns_as f.now i) (range first count) ≡ true }
     ensures { Alike f.now i result }
 {
-    // One is, so `first` stands for none.
+    // `first` is never fallen back on, since one of them is.
     (first..first + count)
         .find(|k| is_alike(f, i, *k))
         .unwrap_or(first)

@@ -15,7 +15,8 @@ use Rattle.definition.specs.Shape.{owned}
 use Rattle.records.proofs.Items.{size_small}
 use Rattle.naming.proofs.Small.{parts_next, parts_below}
 use Rattle.room.specs.declared.out.Out.{Out}
-use Rattle.conditions.specs.declared.operands.Found.{Found}
+use Rattle.std.specs.Prelude.{Option as Answer}
+use Rattle.conditions.specs.declared.operands.Pair.{Pair}
 use Rattle.conditions.specs.Pairs.{Set}
 use Rattle.lower.specs.declared.block.Walk.{Walk}
 use Rattle.lower.specs.Given.{Stands}
@@ -56,7 +57,7 @@ module _ (f : List ℕ) (own : owned f ≡ true) (b : ℕ) (here : b < size f bl
     end_most = omega (arith, end_small)
 
   -- what was found of the walk's statements was found of the block's
-  pub set_here : (t : ℕ) (x : Found) → Set f t w.stmt n x → Set f t (first_stmt f b) (block_stmts f b) x
+  pub set_here : (t : ℕ) (x : Answer Pair) → Set f t w.stmt n x → Set f t (first_stmt f b) (block_stmts f b) x
   set_here t x s = rw (← is.here, ← many) s
 
   pub next_stands : (r : Walk) → Stands f (w.stmt + n) r → Stands f (first_stmt f (b + 1)) r

@@ -14,7 +14,7 @@ use crate::stmt::stmt;
 use calls::ends::last_leaves;
 use calls::pushes::from_behind;
 use calls::sets::set_behind;
-use conditions::operands::{Found, operands};
+use conditions::operands::{Pair, operands};
 use defined::value::next_item;
 use gotos::closing::closing;
 use gotos::label::label;
@@ -38,7 +38,7 @@ fn stmts(
     given: &Given<'_>,
     block: u32,
     end: u32,
-    setter: Found,
+    setter: Option<Pair>,
 ) -> Walk
     requires block_bound { (block < size given.now.src.of.f.now blocks) × (Stands given.now.src.of.f.now (first_stmt given.now.src.of.f.now block) w) × (end ≡ first_stmt given.now.src.of.f.now block + block_stmts given.now.src.of.f.now block) }
     requires set { Set given.now.src.of.f.now given.now.src.of.t (first_stmt given.now.src.of.f.now block) (block_stmts given.now.src.of.f.now block) setter }
@@ -50,20 +50,18 @@ fn stmts(
     let mut item = w.item;
     let mut from = w.stmt;
     let mut count = 0;
-    let mut i = w.stmt;
-    while i < end {
+    for i in w.stmt..end {
         out = stmt(
             lines, tokens, text, out, given, block, i, end, item, from, count, setter,
         );
         item = next_item(given.src.of.f, i, item);
         from = from_behind(given.src.of.f, i, from);
         count = set_behind(given.src.of.f, i, count);
-        i += 1;
     }
     Walk {
-        out: out,
+        out,
         stmt: end,
-        item: item,
+        item,
     }
 }
 
@@ -93,16 +91,8 @@ pub fn lower_block(
         given.labels,
         block,
     );
-    let begun = Walk {
-        out: out,
-        stmt: first,
-        item: w.item,
-    };
+    let begun = Walk { out, ..w };
     let v = stmts(lines, tokens, text, begun, given, block, first + n, setter);
     let out = closing(lines, tokens, text, v.out, given.src.of.f, block, leaves);
-    Walk {
-        out: out,
-        stmt: v.stmt,
-        item: v.item,
-    }
+    Walk { out, ..v }
 }

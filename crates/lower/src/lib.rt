@@ -66,16 +66,13 @@ pub fn lower<'a>(
         labels,
     };
     let n = size_of(f, BLOCKS);
-    let out = Out::start();
     let mut w = Walk {
-        out: out,
+        out: Out::start(),
         stmt: 0,
         item: 0,
     };
-    let mut b = 0;
-    while b < n {
+    for b in 0..n {
         w = lower_block(lines, tokens, text, w, &given, b);
-        b += 1;
     }
     w.out
 }

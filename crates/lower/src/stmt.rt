@@ -13,7 +13,7 @@ ghost use Rattle.lower.specs.Given.{StmtAt};
 
 use crate::given::Given;
 use calling::call::call;
-use conditions::operands::Found;
+use conditions::operands::Pair;
 use jumps::branch::branch;
 use plain::assign::assign;
 use plain::other::other;
@@ -35,7 +35,7 @@ pub fn stmt(
     item: u32,
     from: u32,
     count: u32,
-    setter: Found,
+    setter: Option<Pair>,
 ) -> Out
     requires stmt_at { StmtAt given.now.src.of.f.now block i end item }
     requires set { Set given.now.src.of.f.now given.now.src.of.t (first_stmt given.now.src.of.f.now block) (block_stmts given.now.src.of.f.now block) setter }
@@ -43,9 +43,7 @@ pub fn stmt(
         → seen_sheet (sheet_of lines.new tokens.new text.new result)
         ≡ seen_sheet (write_all (sheet_of lines.old tokens.old text.old out) (lowered E given.now.src.of.f.now (here_at E given.now.src.of.f.now block) (pending E given.now.src.of.f.now from i) set end i)) }
 {
-    let s = stmt_at(given.src.of.f, i, item);
-    let kind = s.kind;
-    match kind {
+    match stmt_at(given.src.of.f, i, item).kind {
         Kind::Assign(_) => {
             assign(
                 lines,

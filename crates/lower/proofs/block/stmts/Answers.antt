@@ -19,12 +19,6 @@ next_item-item-requires c =
 pub from_behind-from-requires : goal.from_behind-from-requires
 from_behind-from-requires c = index_small _ c.args.given.now.src.of.bytes _ (in_block _ c.args.given.now.known.told.ground.counts _ _ _ c.requires.block_bound.0 c.requires.block_bound.2 c.loop-i-test.true)
 
-pub overflow_add-i : goal.overflow_add-i
-overflow_add-i c = omega (arith, index_small c.args.given.now.src.of.f.now c.args.given.now.src.of.bytes c.loop-i.i (in_block c.args.given.now.src.of.f.now c.args.given.now.known.told.ground.counts c.args.block c.args.end c.loop-i.i c.requires.block_bound.0 c.requires.block_bound.2 c.loop-i-test.true))
-
-pub loop-i-smaller : goal.loop-i-smaller
-loop-i-smaller c = omega (arith, c.loop-i-test.true)
-
 pub loop-i-preserved : goal.loop-i-preserved
 loop-i-preserved c = let inv = c.loop-i.invariant in ((λ E s. inv.0 E s ∙ stmts_turn E _ _ _ _ _ _ _ _ _ inv.4 c.loop-i-test.true (c.from_behind-from.ensures E inv.3).0 (c.stmt-out.ensures E _ s (inv.1 E))), (λ E. count_next E _ _ _ _ inv.4 (c.set_behind-count.ensures E _ (inv.1 E))), c.next_item-item.ensures, (c.from_behind-from.ensures edition1 inv.3).1, omega (arith, inv.4), omega (arith, c.loop-i-test.true), inv.6, c.stmt-out.auto.lines ∙ inv.7, c.stmt-out.auto.tokens ∙ inv.8, c.stmt-out.auto.text ∙ inv.9)
 

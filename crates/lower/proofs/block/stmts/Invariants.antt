@@ -13,6 +13,3 @@ use Rattle.lower.proofs.block.stmts.Given as goal
 
 abbrev pub invariant-loop-i : goal.invariant-loop-i
 invariant-loop-i l = ((E : Edition) → text_of E ≡ l.given.src.of.t → seen_sheet (write_all (sheet_of l.initial.lines l.initial.tokens l.initial.text l.initial.out) (stmt_lines E l.given.src.of.f.now l.block l.initial.i l.end l.initial.i l.initial.i)) ≡ seen_sheet (write_all (sheet_of l.lines l.tokens l.text l.out) (stmt_lines E l.given.src.of.f.now l.block l.initial.i l.end l.from l.i))) × ((E : Edition) → l.count ≡ count_set (set_since E l.given.src.of.f.now l.initial.i (l.i - l.initial.i)) (read E l.given.src.of.f.now).args) × (l.item ≡ first_item l.given.src.of.f.now l.i) × (l.from ≤ l.i) × (l.initial.i ≤ l.i) × (l.i ≤ l.end) × (l.initial.i ≡ first_stmt l.given.src.of.f.now l.block) × (length l.lines ≡ length l.initial.lines) × (length l.tokens ≡ length l.initial.tokens) × (length l.text ≡ length l.initial.text)
-
-abbrev pub decreases-loop-i : goal.decreases-loop-i
-decreases-loop-i l = l.end - l.i

@@ -6,32 +6,32 @@ use Rattle.lower.proofs.stmt.stmt.Goals as goal
 pub assign-requires : goal.assign-requires
 unfolding kind_number
 assign-requires c = let pre = c.requires in
-    record { i_value = kind_is _ c.args.given.now.known.shape _ (here_at_lem _ c.args.given.now.known.told.ground.counts _ _ _ _ pre.stmt_at) _ _ c.stmt_at-s.ensures _ c.in-Assign.is; i_lt_end = inside _ c.args.given.now.known.told.ground.counts _ _ _ _ pre.stmt_at; classed = c.args.given.now.known.classed }
+    record { i_value = kind_is _ c.args.given.now.known.shape _ (here_at_lem _ c.args.given.now.known.told.ground.counts _ _ _ _ pre.stmt_at) _ _ c.stmt_at.ensures _ c.in-Assign.is; i_lt_end = inside _ c.args.given.now.known.told.ground.counts _ _ _ _ pre.stmt_at; classed = c.args.given.now.known.classed }
 
 pub store-requires : goal.store-requires
 unfolding kind_number
 store-requires c = let pre = c.requires in
-    record { i_value = kind_is _ c.args.given.now.known.shape _ (here_at_lem _ c.args.given.now.known.told.ground.counts _ _ _ _ pre.stmt_at) _ _ c.stmt_at-s.ensures _ c.in-Store.is; i_lt_end = inside _ c.args.given.now.known.told.ground.counts _ _ _ _ pre.stmt_at }
+    record { i_value = kind_is _ c.args.given.now.known.shape _ (here_at_lem _ c.args.given.now.known.told.ground.counts _ _ _ _ pre.stmt_at) _ _ c.stmt_at.ensures _ c.in-Store.is; i_lt_end = inside _ c.args.given.now.known.told.ground.counts _ _ _ _ pre.stmt_at }
 
 pub call-requires : goal.call-requires
 unfolding kind_number
 call-requires c = let pre = c.requires in
-    record { live_reads = c.args.given.now.known.times; phi_reads = c.args.given.now.known.flows; call_at = call_at _ c.args.given.now.known.told.ground.counts _ _ _ _ pre.stmt_at (kind_is _ c.args.given.now.known.shape _ (here_at_lem _ c.args.given.now.known.told.ground.counts _ _ _ _ pre.stmt_at) _ _ c.stmt_at-s.ensures _ c.in-Call.is) }
+    record { live_reads = c.args.given.now.known.times; phi_reads = c.args.given.now.known.flows; call_at = call_at _ c.args.given.now.known.told.ground.counts _ _ _ _ pre.stmt_at (kind_is _ c.args.given.now.known.shape _ (here_at_lem _ c.args.given.now.known.told.ground.counts _ _ _ _ pre.stmt_at) _ _ c.stmt_at.ensures _ c.in-Call.is) }
 
 pub branch-lines-requires : goal.branch-lines-requires
 unfolding kind_number
 branch-lines-requires c = let pre = c.requires in
-    record { branch_at = branch_at _ c.args.given.now.known.told.ground.counts _ _ _ _ pre.stmt_at (kind_is _ c.args.given.now.known.shape _ (here_at_lem _ c.args.given.now.known.told.ground.counts _ _ _ _ pre.stmt_at) _ _ c.stmt_at-s.ensures _ c.in-Branch.is); set = pre.set }
+    record { branch_at = branch_at _ c.args.given.now.known.told.ground.counts _ _ _ _ pre.stmt_at (kind_is _ c.args.given.now.known.shape _ (here_at_lem _ c.args.given.now.known.told.ground.counts _ _ _ _ pre.stmt_at) _ _ c.stmt_at.ensures _ c.in-Branch.is); set = pre.set }
 
 pub returns-requires : goal.returns-requires
 unfolding kind_number
 returns-requires c = let pre = c.requires in
-    record { i_value = kind_is _ c.args.given.now.known.shape _ (here_at_lem _ c.args.given.now.known.told.ground.counts _ _ _ _ pre.stmt_at) _ _ c.stmt_at-s.ensures _ c.in-Return.is; i_lt_end = inside _ c.args.given.now.known.told.ground.counts _ _ _ _ pre.stmt_at }
+    record { i_value = kind_is _ c.args.given.now.known.shape _ (here_at_lem _ c.args.given.now.known.told.ground.counts _ _ _ _ pre.stmt_at) _ _ c.stmt_at.ensures _ c.in-Return.is; i_lt_end = inside _ c.args.given.now.known.told.ground.counts _ _ _ _ pre.stmt_at }
 
 pub other-requires : goal.other-requires
 unfolding kind_number
 other-requires c = let pre = c.requires in
-    record { i_value = kind_is _ c.args.given.now.known.shape _ (here_at_lem _ c.args.given.now.known.told.ground.counts _ _ _ _ pre.stmt_at) _ _ c.stmt_at-s.ensures _ c.in-Other.is; i_lt_end = inside _ c.args.given.now.known.told.ground.counts _ _ _ _ pre.stmt_at; live_reads = (c.args.given.now.known.times, c.args.given.now.known.flows); first_value = pre.stmt_at.first }
+    record { i_value = kind_is _ c.args.given.now.known.shape _ (here_at_lem _ c.args.given.now.known.told.ground.counts _ _ _ _ pre.stmt_at) _ _ c.stmt_at.ensures _ c.in-Other.is; i_lt_end = inside _ c.args.given.now.known.told.ground.counts _ _ _ _ pre.stmt_at; live_reads = (c.args.given.now.known.times, c.args.given.now.known.flows); first_value = pre.stmt_at.first }
 
 pub returns-in-Assign : goal.returns-in-Assign
 returns-in-Assign c = λ E set s n. c.assign.ensures E _ _ set s
@@ -48,7 +48,7 @@ returns-in-Branch c = λ E set s n. ends_there E _ _ _ _ _ _ _ _ _ c.requires.st
 pub returns-in-Flags : goal.returns-in-Flags
 returns-in-Flags c =
     let pre = c.requires in
-    λ E set s n. flags_none _ c.args.given.now.src.of.bytes c.args.given.now.known.told.ground.counts _ (here_at_lem _ c.args.given.now.known.told.ground.counts _ _ _ _ pre.stmt_at) _ pre.stmt_at.first _ c.stmt_at-s.ensures _ c.in-Flags.is E _ _ set _ _
+    λ E set s n. flags_none _ c.args.given.now.src.of.bytes c.args.given.now.known.told.ground.counts _ (here_at_lem _ c.args.given.now.known.told.ground.counts _ _ _ _ pre.stmt_at) _ pre.stmt_at.first _ c.stmt_at.ensures _ c.in-Flags.is E _ _ set _ _
 
 pub returns-in-Return : goal.returns-in-Return
 returns-in-Return c = λ E set s n. c.returns.ensures E _ _ set s
