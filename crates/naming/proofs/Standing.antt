@@ -37,10 +37,7 @@ module _ (f : List ℕ) (w : Walk) (p s k : ℕ) (is : w ≡ standing f p s k) w
 
   pub stands_here : w ≡ standing f w.phi w.stmt w.next
   stands_here = is ∙ ap₂ (λ (x : ℕ) (v : ℕ). standing f x v k) (sym stands_all.0) (sym stands_all.1) ∙ ap (standing f w.phi w.stmt) (sym stands_all.4)
-
   -- at another statement
-  pub stands_on : (t r m : ℕ) → r ≡ first_item f t → made w.phi t w.input r m ≡ standing f p t m
-  stands_on t r m e = ap (λ (x : ℕ). made x t w.input r m) stands_all.0 ∙ stands_made f p t w.input r m stands_all.2 e
 
 -- ---- a block
 module _ (f : List ℕ) (own : owned f ≡ true) (b : ℕ) (here : b < size f blocks) (w : Walk) (is : w ≡ standing f (first_phi f b) (first_stmt f b) w.next) where

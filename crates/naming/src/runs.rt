@@ -73,7 +73,9 @@ pub fn name_run<F: Fn(u32) -> Mention>(
     let mut next = next;
     for k in a..b {
         let m = mention(k);
-        next = name_key(names, seen, of.numbers, of.roots, of.away, m.place, m.value, next);
+        next = name_key(
+            names, seen, of.numbers, of.roots, of.away, m.place, m.value, next,
+        );
     }
     next
 }

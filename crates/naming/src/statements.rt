@@ -49,16 +49,20 @@ fn name_fields(names: &mut [u32], seen: &mut [u32], of: &Tables<'_>, i: u32, nex
     name_defined(names, seen, of, p, d, next)
 }
 
-// The next statement, where it is live.
-fn name_stmt(names: &mut [u32], seen: &mut [u32], of: &Tables<'_>, w: Walk) -> u32
-    requires { (w.stmt < size of.now.f.now statements) × (w.item ≡ first_item of.now.f.now w.stmt) }
+// Statement i, whose list items begin at `first`, where it is live.
+fn name_stmt(
+    names: &mut [u32],
+    seen: &mut [u32],
+    of: &Tables<'_>,
+    i: u32,
+    first: u32,
+    next: u32,
+) -> u32
+    requires { (i < size of.now.f.now statements) × (first ≡ first_item of.now.f.now i) }
     ensures { state names.new seen.new result
-        ≡ walked (known of.now.numbers.now of.now.roots.now of.now.away.now) (state names.old seen.old w.next)
-        (stmt_spots of.now.f.now w.stmt) }
+        ≡ walked (known of.now.numbers.now of.now.roots.now of.now.away.now) (state names.old seen.old next)
+        (stmt_spots of.now.f.now i) }
 {
-    let i = w.stmt;
-    let first = w.item;
-    let next = w.next;
     if is_dead(of.f, i) {
         return next;
     }
@@ -78,20 +82,16 @@ pub fn name_stmts(names: &mut [u32], seen: &mut [u32], of: &Tables<'_>, b: u32, 
         names.old seen.old names.new seen.new w result w.phi b
         (gather (stmt_spots of.now.f.now) (range w.stmt (b - w.stmt))) }
 {
-    let mut v = w;
-    while v.stmt < b {
-        let next = name_stmt(names, seen, of, v);
-        let item = next_item(of.f, v.stmt, v.item);
-        let phi = v.phi;
-        let stmt = v.stmt + 1;
-        let input = v.input;
-        v = Walk {
-            phi: phi,
-            stmt: stmt,
-            input: input,
-            item: item,
-            next: next,
-        };
+    let mut item = w.item;
+    let mut next = w.next;
+    for i in w.stmt..b {
+        next = name_stmt(names, seen, of, i, item, next);
+        item = next_item(of.f, i, item);
     }
-    v
+    Walk {
+        stmt: b,
+        item,
+        next,
+        ..w
+    }
 }
