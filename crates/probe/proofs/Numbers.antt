@@ -1,15 +1,12 @@
 -- The six counts written one behind the other.
-use mathlib.Core.Path.{◌≡◌, refl, sym, ap, ◌∙◌}
+use mathlib.Core.Path.{◌≡◌, refl}
 use mathlib.Core.List.{List, [], ◌∷◌}
 use Prim.Native.Nat.{ℕ, ◌<◌, ◌≤◌}
 use native.Mathlib.Omega.{arith}
 use borrow.Author.Tests.{lt-ltb, le-ltb}
 use lib.ListN.{length, drop, set}
-use Rattle.std.specs.Prelude.{Ok, Err}
-use Rattle.passes.specs.Sweeps.{too_deep}
 use Rattle.structure.specs.declared.answers.Counts.{Counts}
-use Rattle.structure.specs.Answers.{Structured}
-use Rattle.probe.specs.Numbered.{counted, number_of, counts_of, Numbered}
+use Rattle.probe.specs.Numbered.{counted}
 
 six : (c : List ℕ) (a b d e f g : ℕ) → 6 ≤ length c → set (set (set (set (set (set c 0 a) 1 b) 2 d) 3 e) 4 f) 5 g ≡ a ∷ b ∷ d ∷ e ∷ f ∷ g ∷ drop 6 c
 six [] a b d e f g h = absurd (omega arith)
