@@ -37,7 +37,6 @@ module _ (f : List ℕ) (w : Walk) (p s k : ℕ) (is : w ≡ standing f p s k) w
 
   pub stands_here : w ≡ standing f w.phi w.stmt w.next
   stands_here = is ∙ ap₂ (λ (x : ℕ) (v : ℕ). standing f x v k) (sym stands_all.0) (sym stands_all.1) ∙ ap (standing f w.phi w.stmt) (sym stands_all.4)
-  -- at another statement
 
 -- ---- a block
 module _ (f : List ℕ) (own : owned f ≡ true) (b : ℕ) (here : b < size f blocks) (w : Walk) (is : w ≡ standing f (first_phi f b) (first_stmt f b) w.next) where

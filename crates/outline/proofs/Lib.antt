@@ -1,4 +1,3 @@
-pub mod Verdicts
 pub mod Along
 pub mod Moves
 pub mod SpanLaws
