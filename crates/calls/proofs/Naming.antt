@@ -1,10 +1,9 @@
 -- The code finds a name by its index in the file; its text is the definition's name, which a jump's target and a direct call's are made of.
 use mathlib.Core.Path.{◌≡◌, refl, sym, ap, ◌∙◌}
-use mathlib.Core.Bool.{Bool, true, false, not}
+use mathlib.Core.Bool.{Bool, true, false}
 use mathlib.Core.Option.{Option, none, some}
 use mathlib.Core.List.{List, [], ◌∷◌}
 use Prim.Native.Nat.{ℕ, ◌+◌, ◌-◌}
-use lib.Dec.{eqb}
 use Rattle.definition.specs.Edition.{Edition}
 use Rattle.definition.specs.Words.{part}
 use Rattle.definition.specs.Lists.{among}
