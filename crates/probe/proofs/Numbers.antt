@@ -1,31 +1,11 @@
 -- The six counts written one behind the other.
-<<<<<<< HEAD
 use mathlib.Core.Path.{◌≡◌}
 use mathlib.Core.List.{List, [], ◌∷◌, ◌++◌}
-=======
-use mathlib.Core.Path.{◌≡◌, refl}
-use mathlib.Core.List.{List, [], ◌∷◌}
->>>>>>> hD/main
 use Prim.Native.Nat.{ℕ, ◌<◌, ◌≤◌}
 use borrow.Author.Tests.{lt-ltb, le-ltb}
-<<<<<<< HEAD
 use lib.ListN.{length, drop}
 use Rattle.structure.specs.declared.answers.Counts.{Counts}
 use Rattle.probe.specs.Numbered.{counted}
-=======
-use lib.ListN.{length, drop, set}
-use Rattle.structure.specs.declared.answers.Counts.{Counts}
-use Rattle.probe.specs.Numbered.{counted}
-
-six : (c : List ℕ) (a b d e f g : ℕ) → 6 ≤ length c → set (set (set (set (set (set c 0 a) 1 b) 2 d) 3 e) 4 f) 5 g ≡ a ∷ b ∷ d ∷ e ∷ f ∷ g ∷ drop 6 c
-six [] a b d e f g h = absurd (omega arith)
-six (s ∷ []) a b d e f g h = absurd (omega arith)
-six (s ∷ t ∷ []) a b d e f g h = absurd (omega arith)
-six (s ∷ t ∷ u ∷ []) a b d e f g h = absurd (omega arith)
-six (s ∷ t ∷ u ∷ v ∷ []) a b d e f g h = absurd (omega arith)
-six (s ∷ t ∷ u ∷ v ∷ w ∷ []) a b d e f g h = absurd (omega arith)
-six (s ∷ t ∷ u ∷ v ∷ w ∷ x ∷ c) a b d e f g h = refl
->>>>>>> hD/main
 
 pub no_counts : (c : List ℕ) (k : Counts) → length c < 6 → c ≡ counted c k
 unfolding counted
