@@ -18,7 +18,7 @@ use Rattle.definition.specs.Render.{Gen, open_next, open_all}
 use Rattle.definition.specs.Inline.{InPlace}
 use Rattle.definition.specs.Lower.{name_for_hex, direct, is_indirect}
 use Rattle.definition.specs.Blocks.{lowering}
-use Rattle.std.specs.Prelude.{Option as Answer, Some, None}
+use Rattle.std.specs.Prelude.{Option as Answer, Some, None, not}
 use Rattle.std.specs.Option.{MatchOption}
 use Rattle.std.specs.Bool.{then_some}
 use Rattle.definition.proofs.Bools.{by_test}
