@@ -13,7 +13,6 @@ use Rattle.definition.specs.Lists.{any, among, range}
 use Rattle.definition.specs.Words.{part}
 use Rattle.definition.specs.Contents.{offset, text, text_at, size, name_word, name_long}
 use Rattle.definition.specs.Read.{name_at}
-use Rattle.definition.specs.Numbers.{hex_upper}
 use Rattle.definition.specs.Lookup.{name_for, size_prefix, name_or, global_name}
 use denote.Param.Members.{Mut}
 use denote.Ref.{Bor}

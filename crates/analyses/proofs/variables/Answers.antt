@@ -1,5 +1,5 @@
 -- The classes come from keys and numbers, what is written in place from the reads; the roots' table is as long as the numbers, as is asked.
-use Rattle.analyses.proofs.Gathered.{for_classes, for_inline, all_placed_lem}
+use Rattle.analyses.proofs.Gathered.{for_classes, all_placed_lem}
 use Rattle.analyses.proofs.variables.Goals as goal
 
 pub classes-requires : goal.classes-requires

@@ -1,5 +1,5 @@
 -- From zeros the table becomes that of the file's offsets; what check 7 answers over it is then the definition's refusal.
-use Rattle.tables.proofs.Staging.{ground, unstacked, stacked}
+use Rattle.tables.proofs.Staging.{unstacked, stacked}
 use Rattle.tables.proofs.steps.stack.Goals as goal
 
 pub offsets-requires : goal.offsets-requires
