@@ -99,7 +99,7 @@ pub fn behind(dst: &mut [u8], front: &[u8], x: Radix, v: u64) -> Wrote
         return Err(NoRoom);
     }
     let m = digits(&mut dst[n..], x, v)?;
-    dst[..n].copy_from_slice(front);
+    copy(dst, front)?;
     Ok(n + m)
 }
 

@@ -3,7 +3,7 @@ ghost use Rattle.std.specs.Prelude.{◌++◌};
 ghost use Rattle.definition.specs.Words.{part};
 ghost use Rattle.leaf.specs.Leaf.{Leaf};
 
-use leaf::{NoRoom, Wrote, copy_part};
+use leaf::{NoRoom, Wrote, copy, copy_part};
 
 // Writes n bytes of f from `at` on behind a front. The part goes first, so that a refusal touches nothing.
 pub fn part_behind(dst: &mut [u8], front: &[u8], f: &[u8], at: usize, n: usize) -> Wrote
@@ -14,6 +14,6 @@ pub fn part_behind(dst: &mut [u8], front: &[u8], f: &[u8], at: usize, n: usize) 
         return Err(NoRoom);
     }
     let m = copy_part(&mut dst[k..], f, at, n)?;
-    dst[..k].copy_from_slice(front);
+    copy(dst, front)?;
     Ok(k + m)
 }

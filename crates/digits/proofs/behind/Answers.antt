@@ -1,7 +1,7 @@
 -- Without room for the front, or for the digits behind it, nothing is touched; where the digits fit behind it, so does the front.
 use lib.ListN.{length}
 use Prim.Native.Nat.{◌+◌, ◌≤◌}
-use Rattle.leaf.proofs.Leaves.{no_front, no_end, end_count, both_fit}
+use Rattle.leaf.proofs.Leaves.{no_front, no_end, end_count, front_told, both_told}
 use Rattle.digits.specs.Numeral.{numeral}
 use native.Mathlib.Omega.{arith}
 use mathlib.Core.Path.{refl}
@@ -20,6 +20,10 @@ overflow_add-result c = let a = c.args in
     end_count a.front.now (numeral a.x a.v) a.dst.now _ refl _ _ _ c.if-dst-n.false c.digits.ensures c.in_ok-m.was in
     omega arith
 
+pub returns-in_err-copy : goal.returns-in_err-copy
+returns-in_err-copy c = let a = c.args in
+    front_told a.front.now (numeral a.x a.v) _ _ refl _ _ _ _ _ c.if-dst-n.false c.digits.ensures c.in_ok-m.was c.copy.ensures c.in_err-copy.was
+
 pub returns : goal.returns
 returns c = let a = c.args in
-    both_fit a.front.now (numeral a.x a.v) _ _ refl _ _ _ _ c.if-dst-n.false c.digits.ensures c.in_ok-m.was (rw c.copy_from_slice.ensures.after)
+    both_told a.front.now (numeral a.x a.v) _ _ refl _ _ _ _ _ c.if-dst-n.false c.digits.ensures c.in_ok-m.was c.copy.ensures

@@ -2,7 +2,7 @@
 use mathlib.Core.Path.{refl}
 use native.Mathlib.Omega.{arith}
 use Rattle.definition.specs.Words.{part}
-use Rattle.leaf.proofs.Leaves.{no_front, no_end, end_count, both_fit}
+use Rattle.leaf.proofs.Leaves.{no_front, no_end, end_count, front_told, both_told}
 use Prim.Native.Nat.{◌+◌, ◌≤◌}
 use lib.ListN.{length}
 use Rattle.pieces.proofs.fronted.part_behind.Goals as goal
@@ -20,6 +20,10 @@ overflow_add-result c = let a = c.args in
     end_count a.front.now (part a.f.now a.at a.n) a.dst.now _ refl _ _ _ c.if-dst-k.false c.copy_part.ensures c.in_ok-m.was in
     omega arith
 
+pub returns-in_err-copy : goal.returns-in_err-copy
+returns-in_err-copy c = let a = c.args in
+    front_told a.front.now (part a.f.now a.at a.n) _ _ refl _ _ _ _ _ c.if-dst-k.false c.copy_part.ensures c.in_ok-m.was c.copy.ensures c.in_err-copy.was
+
 pub returns : goal.returns
 returns c = let a = c.args in
-    both_fit a.front.now (part a.f.now a.at a.n) _ _ refl _ _ _ _ c.if-dst-k.false c.copy_part.ensures c.in_ok-m.was (rw c.copy_from_slice.ensures.after)
+    both_told a.front.now (part a.f.now a.at a.n) _ _ refl _ _ _ _ _ c.if-dst-k.false c.copy_part.ensures c.in_ok-m.was c.copy.ensures
