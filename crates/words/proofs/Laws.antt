@@ -1,21 +1,21 @@
 -- What each return of the functions comes to, over plain lists: a number is the first four bytes of what is left, and the definition's
--- tests of texts are those of the library.
+-- tests of texts are chains over bytes that stand one beside the other, or over the places of a text.
 use mathlib.Core.Path.{◌≡◌, refl, sym, ap, ◌∙◌}
 use mathlib.Core.Bool.{Bool, true, false, ◌&&◌, ◌||◌}
 use mathlib.Core.List.{List, [], ◌∷◌}
-use Prim.Native.Nat.{ℕ, zero, suc, min, ◌+◌, ◌*◌, ◌≤◌, ◌<◌}
+use Prim.Native.Nat.{ℕ, zero, suc, ◌+◌, ◌*◌, ◌≤◌, ◌<◌}
 use native.Mathlib.Decide.{dec_lt}
 use native.Mathlib.Numerals.{add-one}
 use native.Mathlib.Omega.{arith}
 use lib.Dec.{eqb}
-use lib.ListN.{length, take, drop, get_or, length-drop, drop_of_length-le}
+use lib.ListN.{length, drop, get_or, length-drop, drop_of_length-le}
 use lib.Seq.{drop-cons}
 use mir.Syntax.{w8, w32}
 use mir.Val.{Fits}
+use borrow.Author.Tests.{eq-eqb, ne_eqb}
 use Rattle.std.proofs.Common.{get_or-drop}
-use Rattle.std.specs.Cmp.Lexicographic.{pointwise}
 use Rattle.std.specs.Int.{from_le_bytes}
-use Rattle.std.specs.List.{list_any, range_with_len}
+use Rattle.std.specs.List.{list_all, zip}
 use Rattle.definition.specs.Words.{four, word, long}
 use Rattle.definition.specs.Texts.{same, begins, contains}
 
@@ -62,23 +62,28 @@ word_small f bytes i = go (dec_lt (length (drop i f)) 4)
     go (yes h) = omega (arith, four_short (drop i f) h)
     go (no h) = omega (arith, four_read (drop i f) (omega arith), at 0, at 1, at 2, at 3)
 
--- a place past every file, in place of one that is too large to be told
-pub long_read : (f : List ℕ) (i j a b : ℕ) → length f ≤ 18446744073709551615 → j ≡ min (i + 4) 18446744073709551615
-    → a ≡ word f i → b ≡ word f j → a + 4294967296 * b ≡ long f i
+pub long_read : (f : List ℕ) (i a b : ℕ) → a ≡ word f i → b ≡ word f (i + 4) → a + 4294967296 * b ≡ long f i
 unfolding long
-long_read f i j a b h e p q = go (dec_lt (i + 4) 18446744073709551615)
-  where
-    go : Dec (i + 4 < 18446744073709551615) → a + 4294967296 * b ≡ word f i + 4294967296 * word f (i + 4)
-    go (yes k) = let g : j ≡ i + 4 = omega arith in rw (p, q, g)
-    go (no k) = let g = word_out f j (omega arith) in let l = word_out f (i + 4) (omega arith) in omega arith
+long_read f i a b p q = rw (p, q)
+
+-- where the high word is not wholly inside
+pub long_low : (f : List ℕ) (i a : ℕ) → length f < i + 8 → a ≡ word f i → a ≡ long f i
+long_low f i a h e =
+    let z : 0 ≡ word f (i + 4) = word_out f (i + 4) (omega arith) in
+    let s : a + 4294967296 * 0 ≡ long f i = long_read f i a 0 e z in
+    omega arith
 
 -- ---- texts
-pub same_pointwise : (s t : List ℕ) → pointwise eqb s t ≡ same s t
+-- two bytes one beside the other
+abbrev pub alike : ℕ × ℕ → Bool
+alike p = eqb p.0 p.1
+
+pub same_zip : (s t : List ℕ) → length s ≡ length t → list_all alike (zip s t) ≡ same s t
 unfolding same
-same_pointwise [] [] = refl
-same_pointwise [] (b ∷ t) = refl
-same_pointwise (a ∷ s) [] = refl
-same_pointwise (a ∷ s) (b ∷ t) = ap (λ (x : Bool). eqb a b && x) (same_pointwise s t)
+same_zip [] [] h = refl
+same_zip [] (b ∷ t) h = absurd (omega arith)
+same_zip (a ∷ s) [] h = absurd (omega arith)
+same_zip (a ∷ s) (b ∷ t) h = ap (λ (x : Bool). eqb a b && x) (same_zip s t (omega arith))
 
 pub same_length : (s t : List ℕ) → (length s ≡ length t → ⊥) → false ≡ same s t
 unfolding same
@@ -91,12 +96,6 @@ same_length (a ∷ s) (b ∷ t) h = go (eqb a b) (same_length s t (λ e. h (ap s
     go true e = e
     go false e = refl
 
-pub begins_pointwise : (w s : List ℕ) → pointwise eqb w (take (length w) s) ≡ begins w s
-unfolding begins
-begins_pointwise [] s = refl
-begins_pointwise (a ∷ w) [] = refl
-begins_pointwise (a ∷ w) (b ∷ s) = ap (λ (x : Bool). eqb a b && x) (begins_pointwise w s)
-
 pub begins_short : (w s : List ℕ) → length s < length w → false ≡ begins w s
 unfolding begins
 begins_short [] s h = absurd (omega arith)
@@ -107,25 +106,42 @@ begins_short (a ∷ w) (b ∷ s) h = go (eqb a b) (begins_short w s (omega arith
     go true e = e
     go false e = refl
 
--- the empty text stands everywhere, and another one only before an end
-pub contains_empty : (w s : List ℕ) → length w ≡ 0 → contains w s ≡ true
-unfolding contains begins
-contains_empty [] [] h = refl
-contains_empty [] (b ∷ s) h = refl
-contains_empty (a ∷ w) s h = absurd (omega arith)
+pub begins_turn : (w s : List ℕ) (i k : ℕ) → k < length w → i + k < length s → get_or w k 0 ≡ get_or s (i + k) 0
+    → begins (drop k w) (drop (i + k) s) ≡ begins (drop (k + 1) w) (drop (i + (k + 1)) s)
+unfolding begins
+begins_turn w s i k h g e =
+    let p : i + (k + 1) ≡ suc (i + k) = omega arith in
+    rw (p, add-one, drop-cons w k 0 h, drop-cons s (i + k) 0 g, eq-eqb (get_or w k 0) (get_or s (i + k) 0) e)
 
-contains_from : (w s : List ℕ) (a n : ℕ) → (length w ≡ 0 → ⊥) → length s ≡ a + n
-    → list_any (λ i. begins w (drop i s)) (range_with_len a n) ≡ contains w (drop a s)
-unfolding contains begins
-contains_from [] s a n h e = absurd (h refl)
-contains_from (b ∷ w) s a zero h e = let k : length s ≤ a = omega arith in rw (drop_of_length-le s k)
-contains_from (b ∷ w) s a (suc n) h e =
-    let k : a < length s = omega arith in
-    let q : length s ≡ a + 1 + n = omega arith in
-    ap (λ (x : Bool). begins (b ∷ w) (drop a s) || x) (contains_from (b ∷ w) s (a + 1) n h q) ∙ sym (contains_turn a k)
+pub begins_differ : (w s : List ℕ) (i k : ℕ) → k < length w → i + k < length s → (get_or w k 0 ≡ get_or s (i + k) 0 → ⊥)
+    → false ≡ begins (drop k w) (drop (i + k) s)
+unfolding begins
+begins_differ w s i k h g e = rw (drop-cons w k 0 h, drop-cons s (i + k) 0 g, ne_eqb (get_or w k 0) (get_or s (i + k) 0) e)
+
+pub begins_end : (w s : List ℕ) (k : ℕ) → length w ≤ k → true ≡ begins (drop k w) s
+unfolding begins
+begins_end w s k h = rw (drop_of_length-le w h)
+
+-- at the end of s only the empty text begins
+pub begins_past : (w s : List ℕ) (i : ℕ) → length s ≤ i → eqb (length w) 0 ≡ begins w (drop i s)
+unfolding begins
+begins_past w s i h = rw (drop_of_length-le s h) (go w)
   where
-    contains_turn : (a : ℕ) → a < length s → contains (b ∷ w) (drop a s) ≡ (begins (b ∷ w) (drop a s) || contains (b ∷ w) (drop (a + 1) s))
-    contains_turn a k = rw (add-one, drop-cons s a 0 k)
+    go : (w : List ℕ) → eqb (length w) 0 ≡ begins w []
+    go [] = refl
+    go (a ∷ w) = ne_eqb (suc (length w)) 0 (λ e. omega arith)
 
-pub contains_listed : (w s : List ℕ) → (length w ≡ 0 → ⊥) → list_any (λ i. begins w (drop i s)) (range_with_len 0 (length s)) ≡ contains w s
-contains_listed w s h = contains_from w s 0 (length s) h (omega arith)
+pub contains_hit : (w s : List ℕ) (i : ℕ) → i < length s → begins w (drop i s) ≡ true → true ≡ contains w (drop i s)
+unfolding contains
+contains_hit w s i h e = rw (drop-cons s i 0 h) (rw (← drop-cons s i 0 h, e))
+
+pub contains_turn : (w s : List ℕ) (i : ℕ) → i < length s → begins w (drop i s) ≡ false → contains w (drop i s) ≡ contains w (drop (i + 1) s)
+unfolding contains
+contains_turn w s i h e = rw (add-one, drop-cons s i 0 h) (rw (← drop-cons s i 0 h, e))
+
+pub contains_end : (w s : List ℕ) (i : ℕ) → length s ≤ i → begins w (drop i s) ≡ contains w (drop i s)
+unfolding contains
+contains_end w s i h = rw (drop_of_length-le s h)
+
+pub begins_start : (w s : List ℕ) (i : ℕ) → begins w (drop i s) ≡ begins (drop 0 w) (drop (i + 0) s)
+begins_start w s i = let p : i + 0 ≡ i = omega arith in rw p

@@ -1,20 +1,18 @@
--- The empty text stands everywhere; another one stands where it begins at a place before the end.
-use Rattle.definition.specs.Texts.{begins}
-use Rattle.words.proofs.Laws.{contains_empty, contains_listed}
-use Rattle.std.proofs.Common.{rules}
-use Rattle.std.proofs.lemmas.Iterator.{YieldsList-from_range}
-use Rattle.std.proofs.lemmas.Iterator.Search.{any_from_yields_List}
-use borrow.Author.Tests.{tests}
-use mathlib.Core.Path.{sym, ◌∙◌}
-use lib.ListN.{length, drop}
+-- Each place is asked whether w begins there; at the end only the empty text does.
+use Rattle.words.proofs.Laws.{begins_past, contains_hit, contains_turn, contains_end}
+use mathlib.Core.Path.{refl, sym, ◌∙◌}
 use native.Mathlib.Omega.{arith}
 use Rattle.words.proofs.contains_text.Goals as goal
 
-pub returns-then-is_empty : goal.returns-then-is_empty
-returns-then-is_empty c = c.if-is_empty.true ∙ sym (contains_empty c.args.w.now c.args.s.now (search (rules, tests)))
+pub loop-i-init : goal.loop-i-init
+loop-i-init c = refl
 
-pub returns-else-is_empty : goal.returns-else-is_empty
-returns-else-is_empty c =
-    any_from_yields_List (λ i. begins c.args.w.now (drop i c.args.s.now)) _ _ _ c.any.ensures.ran
-    (YieldsList-from_range 0 (length c.args.s.now) (length c.args.s.now) (cc) (omega arith)) (λ x b q k. search (rules, tests))
-    ∙ contains_listed c.args.w.now c.args.s.now (search (rules, tests))
+pub returns-then-begins_at : goal.returns-then-begins_at
+returns-then-begins_at c = contains_hit c.args.w.now c.args.s.now c.loop-i.i (omega arith) (sym c.begins_at.ensures ∙ c.if-begins_at.true) ∙ sym c.loop-i.invariant
+
+pub loop-i-preserved : goal.loop-i-preserved
+loop-i-preserved c = c.loop-i.invariant ∙ contains_turn c.args.w.now c.args.s.now c.loop-i.i (omega arith) (sym c.begins_at.ensures ∙ c.if-begins_at.false)
+
+pub returns : goal.returns
+returns c = let end = c.loop-i-test.false in
+    c.is_empty.ensures ∙ begins_past c.args.w.now c.args.s.now c.loop-i.i end ∙ contains_end c.args.w.now c.args.s.now c.loop-i.i end ∙ sym c.loop-i.invariant

@@ -1,13 +1,9 @@
 -- Inside the file the four bytes are read; outside the answer is 0, as the definition has it.
-use Rattle.words.proofs.Laws.{word_out, word_read}
-use mathlib.Core.Path.{◌∙◌}
+use Rattle.words.proofs.Laws.{word_out}
 use lib.ListN.{length}
 use native.Mathlib.Omega.{arith}
 use Prim.Native.Nat.{◌≤◌}
 use Rattle.words.proofs.word_at.Goals as goal
-
-pub returns-in-Some : goal.returns-in-Some
-returns-in-Some c = let last = c.in-Some.ensures in c.from_le_bytes.ensures ∙ word_read c.args.f.now c.args.i (omega arith)
 
 pub returns-in_default : goal.returns-in_default
 returns-in_default c = word_out c.args.f.now c.args.i (omega arith)
