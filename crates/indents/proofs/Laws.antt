@@ -1,15 +1,14 @@
--- An indent some steps deeper where the sum is a number of 64 bits; and that setting the lines deeper one by one, as the loop does, is a map.
-use mathlib.Core.Path.{◌≡◌, sym, ap, ◌∙◌}
-use mathlib.Core.List.{List, [], ◌∷◌, ◌++◌, map, map-append}
-use Prim.Native.Nat.{ℕ, suc, ◌+◌, ◌<◌, ◌^◌}
-use mathlib.Core.Bool.{Bool, cond}
-use borrow.Author.Tests.{lt-ltb}
-use native.Mathlib.Numerals.{add-one}
+-- What an indent some steps deeper comes to, by the test whether the sum is a number of 64 bits; and that setting the lines deeper one by one, as the
+-- loop does, is a map, by induction on the lines.
+use mathlib.Core.Path.{◌≡◌, refl, sym, ap, ◌∙◌}
+use Prim.Native.Nat.{ℕ, zero, suc, ◌+◌, ◌-◌, ◌<◌, ◌≤◌, ◌^◌}
 use native.Mathlib.Omega.{arith}
-use lib.ListN.{length, get_or, take, drop, set, length-map}
-use lib.Seq.{drop-cons, take-suc, append_snoc, length-take-le, set_at, get_or_at}
+use mathlib.Core.Bool.{Bool, cond}
+use mathlib.Core.List.{List, [], ◌∷◌, map}
+use borrow.Author.Tests.{lt-ltb}
+use lib.ListN.{get_or, set, length, length-set}
 use Rattle.indents.specs.declared.Line.{Line}
-use Rattle.indents.specs.Deeper.{deeper_by}
+use Rattle.indents.specs.Deeper.{deeper_by, raised_by}
 
 pub deeper_fits : (d n : ℕ) → n + d < 2 ^ 64 → n + d ≡ deeper_by d n
 unfolding deeper_by
@@ -19,20 +18,43 @@ deeper_fits d n small = sym (ap (λ (t : Bool). cond t (n + d) n) (lt-ltb (n + d
 abbrev pub nowhere : Line
 nowhere = record { has = 0; address = 0; indent = 0; end = 0; block = 0 }
 
+-- the lines from i on, m of them, set deeper one by one
+unfoldable pub raised_from : ℕ → List Line → ℕ → ℕ → List Line
+raised_from d ls i zero = ls
+raised_from d ls i (suc m) = raised_from d (set ls i (raised_by d (get_or ls i nowhere))) (suc i) m
+
+behind : (d : ℕ) (l : Line) (ls : List Line) (i m : ℕ) → raised_from d (l ∷ ls) (suc i) m ≡ l ∷ raised_from d ls i m
+unfolding raised_from
+behind d l ls i zero = refl
+behind d l ls i (suc m) = behind d l (set ls i (raised_by d (get_or ls i nowhere))) (suc i) m
+
+pub raised_is : (d : ℕ) (ls : List Line) → raised_from d ls 0 (length ls) ≡ map (raised_by d) ls
+unfolding raised_from
+raised_is d [] = refl
+raised_is d (l ∷ ls) = behind d (raised_by d l) ls 0 (length ls) ∙ ap (λ (ms : List Line). raised_by d l ∷ ms) (raised_is d ls)
+
 -- a line with another indent
 abbrev pub at_indent : Line → ℕ → Line
 at_indent l n = record { has = l.has; address = l.address; indent = n; end = l.end; block = l.block }
 
--- an item changed by f, where those before it are
-pub changed_turn : {A : Type 0} (f : A → A) (d : A) (l : List A) (i : ℕ) (v : A) → i < length l → v ≡ f (get_or (map f (take i l) ++ drop i l) i d)
-    → set (map f (take i l) ++ drop i l) i v ≡ map f (take (i + 1) l) ++ drop (i + 1) l
-changed_turn {A} f d l i v h q =
-    let y : A = get_or l i d in
-    let p : List A = map f (take i l) in
-    let z : List A = drop (suc i) l in
-    let n : length p ≡ i = length-map (take i l) f ∙ length-take-le i l (omega arith) in
-    let e : drop i l ≡ y ∷ z = drop-cons l i d h in
-    let ev : v ≡ f y = q ∙ ap f (ap (λ (r : List A). get_or (p ++ r) i d) e ∙ get_or_at p y z d i n) in
-    ap (λ (r : List A). set (p ++ r) i v) e ∙ set_at p y z v i n ∙ ap (λ (w : A). p ++ w ∷ z) ev ∙ sym (append_snoc p (f y) z)
-    ∙ ap (λ (r : List A). r ++ z) (sym (ap (map f) (take-suc l i d h) ∙ map-append f (take i l) (y ∷ [])))
-    ∙ ap (λ (k : ℕ). map f (take k l) ++ drop k l) (sym (add-one i))
+turn_to : (d : ℕ) (ls : List Line) (i j m n : ℕ) (x : Line) → n ≡ suc m → j ≡ suc i → x ≡ raised_by d (get_or ls i nowhere)
+    → raised_from d ls i n ≡ raised_from d (set ls i x) j m
+unfolding raised_from
+turn_to d ls i j m n x en ej ex = rw (en, ej, ex)
+
+-- one turn of the loop
+pub raised_turn : (d : ℕ) (ls : List Line) (i v : ℕ) → i < length ls → v ≡ deeper_by d (get_or ls i nowhere).indent
+    → raised_from d ls i (length ls - i)
+    ≡ raised_from d (set ls i (at_indent (get_or ls i nowhere) v)) (i + 1) (length (set ls i (at_indent (get_or ls i nowhere) v)) - (i + 1))
+raised_turn d ls i v h e =
+    let x = at_indent (get_or ls i nowhere) v in
+    turn_to d ls i (i + 1) (length (set ls i x) - (i + 1)) (length ls - i) x (omega (arith, length-set ls i x)) (omega arith)
+    (ap (λ (n : ℕ). at_indent (get_or ls i nowhere) n) e)
+
+end_at : (d : ℕ) (ls : List Line) (i n : ℕ) → n ≡ 0 → raised_from d ls i n ≡ ls
+unfolding raised_from
+end_at d ls i n e = rw e
+
+-- with no line left from i on it is done
+pub raised_end : (d : ℕ) (ls : List Line) (i : ℕ) → length ls ≤ i → raised_from d ls i (length ls - i) ≡ ls
+raised_end d ls i h = end_at d ls i (length ls - i) (omega arith)

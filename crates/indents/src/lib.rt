@@ -26,8 +26,8 @@ fn deeper(indent: u64, by: u64) -> u64
 pub fn raise_lines(run: &mut [Line], by: u64)
     ensures { run.new ≡ map (raised_by by) run.old }
 {
-    for line in run.iter_mut() {
-        line.indent = deeper(line.indent, by);
+    for i in 0..run.len() {
+        run[i].indent = deeper(run[i].indent, by);
     }
 }
 

@@ -1,15 +1,16 @@
--- The line at the index is set deeper, as it stood; with it the lines up to the next index are.
-use mathlib.Core.List.{List}
-use mathlib.Core.Path.{ap, ◌∙◌}
-use lib.ListN.{get_or, set}
-use Rattle.indents.specs.declared.Line.{Line}
-use Rattle.indents.specs.Deeper.{raised_by}
-use Rattle.indents.proofs.Laws.{nowhere, at_indent, changed_turn}
+-- One line more is set deeper with each turn; where none is left, all are.
+use mathlib.Core.Path.{sym, ◌∙◌}
+use lib.ListN.{length-set}
+use native.Mathlib.Omega.{arith}
+use Rattle.indents.proofs.Laws.{raised_turn, raised_end, raised_is}
 use Rattle.indents.proofs.raise_lines.Goals as goal
 
-pub loop-line-preserved : goal.loop-line-preserved
-loop-line-preserved c = let l = c.loop-line in
-    let x = get_or l.run l.line-index nowhere in
-    ap (λ (r : List Line). set r l.line-index (at_indent x c.deeper-line.result)) l.invariant
-    ∙ changed_turn (raised_by c.args.by) nowhere c.args.run.now l.line-index _ c.loop-line-test.true
-    (ap (at_indent x) c.deeper-line.ensures ∙ ap (λ (r : List Line). raised_by c.args.by (get_or r l.line-index nowhere)) l.invariant)
+pub loop-i-preserved : goal.loop-i-preserved
+loop-i-preserved c =
+    let inv = c.loop-i.invariant in
+    (inv.0 ∙ raised_turn _ _ _ _ (omega arith) c.deeper.ensures, simp length-set inv.1)
+
+pub returns : goal.returns
+returns c =
+    let inv = c.loop-i.invariant in
+    sym (raised_end c.args.by c.loop-i.run c.loop-i.i (omega arith)) ∙ sym inv.0 ∙ raised_is _ _

@@ -1,9 +1,9 @@
--- The lines up to the index are set deeper, those behind stand as they did.
-use mathlib.Core.List.{map, ◌++◌}
+-- Setting the lines from i on deeper, one by one, gives what setting all of them gives; the length stays.
+use Prim.Native.Nat.{◌-◌}
 use mathlib.Core.Path.{◌≡◌}
-use lib.ListN.{take, drop}
-use Rattle.indents.specs.Deeper.{raised_by}
+use lib.ListN.{length}
+use Rattle.indents.proofs.Laws.{raised_from}
 use Rattle.indents.proofs.raise_lines.Given as goal
 
-abbrev pub invariant-loop-line : goal.invariant-loop-line
-invariant-loop-line l = l.run ≡ map (raised_by l.by) (take l.line-index l.initial.run) ++ drop l.line-index l.initial.run
+abbrev pub invariant-loop-i : goal.invariant-loop-i
+invariant-loop-i l = (raised_from l.by l.initial.run 0 (length l.initial.run) ≡ raised_from l.by l.run l.i (length l.run - l.i)) × (length l.run ≡ length l.initial.run)
