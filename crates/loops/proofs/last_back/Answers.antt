@@ -3,6 +3,7 @@ use Rattle.passes.specs.Regions.{back_from}
 use Rattle.std.specs.Prelude.{Option}
 use mathlib.Core.Path.{sym, ap, ◌∙◌}
 use Prim.Native.Nat.{ℕ, ◌+◌, ◌-◌}
+use native.Mathlib.Omega.{arith}
 use Rattle.loops.proofs.last_back.Goals as goal
 use Rattle.loops.proofs.last_back.Goals.{in-Pass, in-Hit}
 
@@ -17,8 +18,8 @@ loop-j-preserved c = let l = c.loop-j in
     let a = c.args in
     let on = λ (x : Option ℕ). unless_later a.n x (back_from a.n a.m a.d a.rows.now (l.j + 1) (a.n - (l.j + 1))) in
     elim c.match-judge_back.branch [
-      | in-Pass w ↦ l.invariant ∙ back_on _ _ _ _ _ _ c.loop-j-test.true _ c.get.ensures w.in-Pass.ensures ∙ ap on (sym w.last-is)
-      | in-Hit w ↦ l.invariant ∙ back_hit _ _ _ _ _ _ c.loop-j-test.true _ c.get.ensures w.in-Hit.ensures ∙ ap on (sym w.last-is)
+      | in-Pass w ↦ l.invariant ∙ back_on _ _ _ _ _ _ c.loop-j-test.true _ c.get.ensures w.in-Pass.ensures ∙ ap on (grind arith)
+      | in-Hit w ↦ l.invariant ∙ back_hit _ _ _ _ _ _ c.loop-j-test.true _ c.get.ensures w.in-Hit.ensures ∙ ap on (grind arith)
     ]
 
 pub returns : goal.returns

@@ -1,6 +1,8 @@
--- A fill leaves the filled number everywhere, since a copy is the number itself.
-use Rattle.std.proofs.Common.{ap, length, replicate, ◌∙◌}
+-- A fill leaves the filled number everywhere, since a copy is the number itself. The search also follows the fill of a part that is all of the table:
+-- must-fail/byte_left, which fills less, is refused for the byte that it leaves.
+use Rattle.std.proofs.Common.{rules}
+use Rattle.std.proofs.lemmas.Grind.{common_steps}
 use Rattle.zeros.proofs.clear.Goals as goal
 
 pub returns : goal.returns
-returns g c = c.fill.ensures.after (g.met.T.Zero.copies _).1 ∙ ap (replicate (length c.args.table.now)) c.ZERO.ensures
+returns g c = let filled = c.fill.ensures.after (g.met.T.Zero.copies _).1 in search (rules, common_steps)
