@@ -4,12 +4,12 @@
 use mathlib.Core.Path.{◌≡◌, refl, sym, ap, ap₂, ◌∙◌}
 use mathlib.Core.Bool.{Bool, true, false, cond, false≢true}
 use mathlib.Core.Option.{Option, none, some}
-use mathlib.Core.List.{List, [], ◌∷◌, ◌++◌, append_assoc}
+use mathlib.Core.List.{List, [], ◌∷◌, ◌++◌, map, append_assoc}
 use Prim.Native.Nat.{min, ℕ, zero, suc, ◌+◌, ◌-◌, ◌≤◌, ◌<◌}
 use native.Mathlib.Omega.{arith}
 use Rattle.std.specs.Prelude.{Option as Answer, Some, None}
-use Rattle.std.specs.List.{filter}
-use Rattle.std.specs.Option.{is_some}
+use Rattle.std.specs.List.{filter, find}
+use Rattle.std.specs.Option.{is_some, option_map}
 use lib.ListN.{length, get_or, take, drop}
 use lib.Seq.{drop-cons}
 use Rattle.definition.specs.Words.{part}
@@ -140,7 +140,14 @@ module _ (t : List ℕ) (from to : ℕ) where
         next r₃ r₀ (tok 6 x) (tok 6 v ∷ tok 6 y ∷ []) e₁ (next r₃ r₁ (tok 6 v) (tok 6 y ∷ []) e₂ (next r₃ r₂ (tok 6 y) [] e₃ (done r₃)))
         ∙ joined r₀ 6 x v (tok 6 y ∷ []) refl ∙ joined r₀ 6 (x ++ v) y [] refl ∙ ap (λ (l : List ℕ). seen (emit_all r₀ (tok 6 l ∷ []))) q
 
+pub same_option : {A : Type 0} (r : Answer A) → r ≡ option_map (λ (x : A). x) r
+same_option (Some x) = refl
+same_option None = refl
+
 -- ---- one sign after another
+abbrev pub signs : List Sign
+signs = Equal ∷ Unequal ∷ Less ∷ NotLess ∷ Greater ∷ NotGreater ∷ []
+
 some_has : (r : Answer Sign) → is_some r ≡ has (flip_of r)
 unfolding has
 some_has (Some k) = refl
@@ -159,18 +166,6 @@ flipped none s = s
 flipped (some p) s = replace p.from p.to s
 
 module _ (s : List ℕ) where
-  pub first_hit : (p : Flip) (ps : List Flip) → contains p.from s ≡ true → some p ≡ first_in (p ∷ ps) s
-  unfolding first_in
-  first_hit p ps e = rw e
-
-  pub first_skip : (x : Option Flip) (p : Flip) (ps : List Flip) → contains p.from s ≡ false → x ≡ first_in ps s → x ≡ first_in (p ∷ ps) s
-  unfolding first_in
-  first_skip x p ps e h = rw e h
-
-  pub first_none : none ≡ first_in [] s
-  unfolding first_in
-  first_none = refl
-
   first_has : (ps : List Flip) → has (first_in ps s) ≡ any (λ q. contains q.from s) ps
   unfolding first_in any has
   first_has [] = refl
@@ -189,6 +184,16 @@ module _ (s : List ℕ) where
   pub sign_compares : (r : Answer Sign) → flip_of r ≡ first_in flips s → is_some r ≡ compares s
   unfolding compares
   sign_compares r first = some_has r ∙ ap has first ∙ first_has flips
+
+  -- the first of the signs that the text contains
+  sign_listed : (ks : List Sign) → flip_of (find (λ k. contains (text_of k) s) ks) ≡ first_in (map flip_by ks) s
+  unfolding first_in
+  sign_listed [] = refl
+  sign_listed (k ∷ ks) = by_test (contains (text_of k) s) (λ e. rw e) (λ e. rw e (sign_listed ks))
+
+  pub sign_first : (r : Answer Sign) → r ≡ find (λ k. contains (text_of k) s) signs → flip_of r ≡ first_in flips s
+  unfolding flips
+  sign_first r e = ap flip_of e ∙ sign_listed signs
 
   -- the first sign is k: the text contains it, and it is flipped
   module _ (k : Sign) (first : some (flip_by k) ≡ first_in flips s) where

@@ -34,6 +34,16 @@ pub enum Sign {
     NotGreater,
 }
 
+// The signs, in the definition's order.
+const SIGNS: [Sign; 6] = [
+    Sign::Equal,
+    Sign::Unequal,
+    Sign::Less,
+    Sign::NotLess,
+    Sign::Greater,
+    Sign::NotGreater,
+];
+
 impl Sign {
     fn text(self) -> &'static [u8]
         ensures { result.now ≡ text_of self }
@@ -63,29 +73,14 @@ impl Sign {
     }
 }
 
-// The first of the signs, in the definition's order, that the range contains. Each is written out, since a search for a text that is known goes faster.
+// The first of the signs, in the definition's order, that the range contains.
 fn first_sign(text: &[u8], from: usize, to: usize) -> Option<Sign>
     ensures { flip_of result ≡ first_in flips (between text.now from to) }
 {
-    if contains_between(text, from, to, b" == ") {
-        return Some(Sign::Equal);
-    }
-    if contains_between(text, from, to, b" != ") {
-        return Some(Sign::Unequal);
-    }
-    if contains_between(text, from, to, b" < ") {
-        return Some(Sign::Less);
-    }
-    if contains_between(text, from, to, b" >= ") {
-        return Some(Sign::NotLess);
-    }
-    if contains_between(text, from, to, b" > ") {
-        return Some(Sign::Greater);
-    }
-    if contains_between(text, from, to, b" <= ") {
-        return Some(Sign::NotGreater);
-    }
-    None
+    SIGNS
+        .iter()
+        .copied()
+        .find(|sign| contains_between(text, from, to, sign.text()))
 }
 
 // Whether one of the signs is in the range.

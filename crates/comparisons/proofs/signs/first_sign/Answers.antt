@@ -1,33 +1,17 @@
--- The tests go in the definition's order: those before were skipped, so the first that holds is its sign; where none does there is nothing.
-use Rattle.comparisons.proofs.Comparing.{first_hit, first_skip, first_none}
-use Rattle.definition.specs.Negate.{flips}
-use mathlib.Core.Path.{sym, ◌∙◌}
+-- The signs stand in the definition's order, and the first of them whose text the range contains is the definition's.
+use Rattle.std.proofs.Common.{rules}
+use borrow.Author.Tests.{tests}
+use mathlib.Core.Path.{◌∙◌}
+use Rattle.definition.specs.Texts.{contains}
+use Rattle.sheet.specs.Ranges.{between}
+use Rattle.comparisons.specs.Signs.{text_of}
+use Rattle.comparisons.proofs.Comparing.{sign_first, signs, same_option}
+use Rattle.std.proofs.lemmas.Iterator.{YieldsList-from_slice}
+use Rattle.std.proofs.lemmas.Iterator.Consumers.{YieldsList-from_copied}
+use Rattle.std.proofs.lemmas.Iterator.Search.{find_from_yields_List}
 use Rattle.comparisons.proofs.signs.first_sign.Goals as goal
 
-pub returns-then-contains_between : goal.returns-then-contains_between
-unfolding flips
-returns-then-contains_between c = first_hit _ _ _ (sym c.contains_between.ensures ∙ c.if-contains_between.true)
-
-pub returns-then-contains_between-2 : goal.returns-then-contains_between-2
-unfolding flips
-returns-then-contains_between-2 c = first_skip _ _ _ _ (sym c.contains_between.ensures ∙ c.if-contains_between.false) (first_hit _ _ _ (sym c.contains_between-2.ensures ∙ c.if-contains_between-2.true))
-
-pub returns-then-contains_between-3 : goal.returns-then-contains_between-3
-unfolding flips
-returns-then-contains_between-3 c = first_skip _ _ _ _ (sym c.contains_between.ensures ∙ c.if-contains_between.false) (first_skip _ _ _ _ (sym c.contains_between-2.ensures ∙ c.if-contains_between-2.false) (first_hit _ _ _ (sym c.contains_between-3.ensures ∙ c.if-contains_between-3.true)))
-
-pub returns-then-contains_between-4 : goal.returns-then-contains_between-4
-unfolding flips
-returns-then-contains_between-4 c = first_skip _ _ _ _ (sym c.contains_between.ensures ∙ c.if-contains_between.false) (first_skip _ _ _ _ (sym c.contains_between-2.ensures ∙ c.if-contains_between-2.false) (first_skip _ _ _ _ (sym c.contains_between-3.ensures ∙ c.if-contains_between-3.false) (first_hit _ _ _ (sym c.contains_between-4.ensures ∙ c.if-contains_between-4.true))))
-
-pub returns-then-contains_between-5 : goal.returns-then-contains_between-5
-unfolding flips
-returns-then-contains_between-5 c = first_skip _ _ _ _ (sym c.contains_between.ensures ∙ c.if-contains_between.false) (first_skip _ _ _ _ (sym c.contains_between-2.ensures ∙ c.if-contains_between-2.false) (first_skip _ _ _ _ (sym c.contains_between-3.ensures ∙ c.if-contains_between-3.false) (first_skip _ _ _ _ (sym c.contains_between-4.ensures ∙ c.if-contains_between-4.false) (first_hit _ _ _ (sym c.contains_between-5.ensures ∙ c.if-contains_between-5.true)))))
-
-pub returns-then-contains_between-6 : goal.returns-then-contains_between-6
-unfolding flips
-returns-then-contains_between-6 c = first_skip _ _ _ _ (sym c.contains_between.ensures ∙ c.if-contains_between.false) (first_skip _ _ _ _ (sym c.contains_between-2.ensures ∙ c.if-contains_between-2.false) (first_skip _ _ _ _ (sym c.contains_between-3.ensures ∙ c.if-contains_between-3.false) (first_skip _ _ _ _ (sym c.contains_between-4.ensures ∙ c.if-contains_between-4.false) (first_skip _ _ _ _ (sym c.contains_between-5.ensures ∙ c.if-contains_between-5.false) (first_hit _ _ _ (sym c.contains_between-6.ensures ∙ c.if-contains_between-6.true))))))
-
 pub returns : goal.returns
-unfolding flips
-returns c = first_skip _ _ _ _ (sym c.contains_between.ensures ∙ c.if-contains_between.false) (first_skip _ _ _ _ (sym c.contains_between-2.ensures ∙ c.if-contains_between-2.false) (first_skip _ _ _ _ (sym c.contains_between-3.ensures ∙ c.if-contains_between-3.false) (first_skip _ _ _ _ (sym c.contains_between-4.ensures ∙ c.if-contains_between-4.false) (first_skip _ _ _ _ (sym c.contains_between-5.ensures ∙ c.if-contains_between-5.false) (first_skip _ _ _ _ (sym c.contains_between-6.ensures ∙ c.if-contains_between-6.false) (first_none _))))))
+returns c = let a = c.args in
+    sign_first _ _ (same_option _ ∙ find_from_yields_List (λ k. contains (text_of k) (between a.text.now a.from a.to)) _ _ c.find.result c.find.ensures.ran
+    (YieldsList-from_copied (YieldsList-from_slice signs (cc))) (λ x b q k. search (rules, tests)))
