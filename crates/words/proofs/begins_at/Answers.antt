@@ -3,7 +3,6 @@ use Rattle.words.proofs.Laws.{begins_short, begins_turn, begins_differ, begins_e
 use mathlib.Core.Path.{sym, ◌∙◌}
 use lib.ListN.{drop, length-drop}
 use native.Mathlib.Omega.{arith}
-use Prim.Native.Nat.{◌-◌}
 use Rattle.words.proofs.begins_at.Goals as goal
 
 pub returns-then-s-i : goal.returns-then-s-i

@@ -3,7 +3,7 @@ use Rattle.words.proofs.Laws.{long_read, long_low}
 use mathlib.Core.Path.{◌∙◌}
 use lib.ListN.{length}
 use native.Mathlib.Omega.{arith}
-use Prim.Native.Nat.{◌≤◌, ◌<◌, ◌+◌}
+use Prim.Native.Nat.{◌≤◌}
 use Rattle.words.proofs.long_at.Goals as goal
 use Rattle.words.proofs.long_at.Goals.{in_default-via-in-Some+else-i-last, in_default-via-in_default}
 
